@@ -34,31 +34,6 @@ use Rattle.reach.proofs.Steps.{lines_most, mark_some}
 use Rattle.reach.proofs.Asking.{marked_in, marked_out, line_of, on_line}
 use Rattle.above.specs.Fitting.{all_above, unfit_at, unfit_value, Unfit, is_kind, Passed, Passes, Fit, Fitted, reached_rule, unfit_from}
 
--- ---- all_above
-
-pub record Kinds (a : List ℕ) (d : ℕ) (q : List ℕ) (j : ℕ) : Type 0 where
-  pub near : j ≤ length q
-  pub rest : all_above a d q ≡ all_above a d (drop j q)
-
-pub kinds_start : (a : List ℕ) (d : ℕ) (q : List ℕ) → Kinds a d q 0
-kinds_start a d q = record { near = omega arith; rest = refl }
-
-module _ (a : List ℕ) (d : ℕ) (q : List ℕ) (j : ℕ) (c : Kinds a d q j) where
-  module _ (h : j < length q) (b : Bool) (eb : b ≡ ancestor_rule a (get_or q j 0) d) where
-    turn : all_above a d q ≡ (b && all_above a d (drop (j + 1) q))
-    unfolding all_above
-    turn = c.rest ∙ ap (all_in (λ v. ancestor_rule a v d)) (uncons q 0 j h) ∙ ap (λ (x : Bool). x && all_in (λ v. ancestor_rule a v d) (drop (j + 1) q)) (sym eb)
-
-    pub kinds_off : not b ≡ true → false ≡ all_above a d q
-    kinds_off e = sym (turn ∙ ap (λ (x : Bool). x && all_above a d (drop (j + 1) q)) (not-true b e))
-
-    pub kinds_on : not b ≡ false → Kinds a d q (j + 1)
-    kinds_on e = record { near = omega (arith, h); rest = turn ∙ ap (λ (x : Bool). x && all_above a d (drop (j + 1) q)) (not-false b e) }
-
-  pub kinds_end_law : length q ≤ j → true ≡ all_above a d q
-  unfolding all_above
-  kinds_end_law h = sym (c.rest ∙ ap (all_in (λ v. ancestor_rule a v d)) (spent q j h))
-
 -- ---- unfit_at, unfit_value
 
 pub unfit_some : (a : List ℕ) (d : ℕ) (m : List ℕ) (k x : ℕ) → x ≡ get_or m k 0 → (x ≡ 0 → ⊥) → (q : List ℕ) → q ≡ parents_in (rows_of a VALUE) (line_rows a) (get_or (line_rows a) k []) → (b : Bool) → b ≡ all_above a d q → not b ≡ marked_at (unfit_at a d) m k

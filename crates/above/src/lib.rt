@@ -11,25 +11,17 @@ ghost use Rattle.typerows.specs.Types.{is_above_at};
 ghost use Rattle.above.specs.Fitting.{all_above, unfit_at, unfit_value, Unfit, Passed, Passes, Fit, Fitted, unfit_from};
 
 use forms::{ENTITY, ENTITY_VALUE, VALUE};
-use met::byte;
 use reach::{FAR, LINES, MARKS, VALUES, line_at, lines, parents_of, place_of, reach, values};
 use table::{count, item, row, tag};
 use typesets::KIND_WORDS;
 use typing::lines::{add_above, is_ancestor, is_ancestor_by};
-use words::{put, read};
+use words::{item_or, put, read};
 
 // Whether the values of a list are all entities of kinds above this one.
 fn all_above(rows: &[u32], kind: u32, list: &[u32]) -> bool
     ensures { result ≡ all_above rows.now kind list.now }
 {
-    let mut i = 0;
-    while i < list.len() {
-        if !is_ancestor(rows, list[i], kind) {
-            return false;
-        }
-        i += 1;
-    }
-    true
+    list.iter().all(|&value| is_ancestor(rows, value, kind))
 }
 
 // Whether line `number` is marked and names a parent of a kind that is not above.
@@ -46,15 +38,7 @@ fn unfit_at(rows: &[u32], kind: u32, marks: &[u32], number: u32) -> bool
 fn any_unfit(rows: &[u32], kind: u32, marks: &[u32]) -> bool
     ensures { result ≡ any_marked (unfit_at rows.now kind) marks.now 0 (length (line_rows rows.now)) }
 {
-    let n = lines(rows);
-    let mut i = 0;
-    while i < n {
-        if unfit_at(rows, kind, marks, i) {
-            return true;
-        }
-        i += 1;
-    }
-    false
+    (0..lines(rows)).any(|i| unfit_at(rows, kind, marks, i))
 }
 
 // Whether `value` was met and is not an entity of a kind above this one, with a set of kinds that are.
@@ -62,7 +46,7 @@ fn unfit_value(rows: &[u32], above: &[u32], kind: u32, met: &[u8], value: u32) -
     requires { Each above.now (is_above_at rows.now kind) }
     ensures { result ≡ marked_at (unfit_value rows.now kind) met.now value }
 {
-    if byte(met, value as usize) == 0 {
+    if item_or(met, value as usize, 0) == 0 {
         return false;
     }
     !is_ancestor_by(rows, above, value, kind)
@@ -75,13 +59,10 @@ fn any_value(rows: &[u32], kind: u32, met: &[u8]) -> bool
 {
     let mut above = [0u32; KIND_WORDS];
     add_above(rows, &mut above, kind);
-    let n = met.len() as u32;
-    let mut i = 0;
-    while i < n {
+    for i in 0..met.len() as u32 {
         if unfit_value(rows, &above, kind, met, i) {
             return true;
         }
-        i += 1;
     }
     false
 }
@@ -107,11 +88,8 @@ fn pass_at(rows: &[u32], kind: u32, marks: &[u32], number: u32, fit: &mut [u32])
 fn pass(rows: &[u32], kind: u32, marks: &[u32], fit: &mut [u32])
     ensures { Passes rows.now kind marks.now (length (line_rows rows.now)) fit.old fit.new }
 {
-    let n = lines(rows);
-    let mut i = 0;
-    while i < n {
+    for i in 0..lines(rows) {
         pass_at(rows, kind, marks, i, fit);
-        i += 1;
     }
 }
 
@@ -200,12 +178,10 @@ pub fn first_unfit(rows: &[u32]) -> u32
     }
     let mut fit: [u32; LINES] = [0; LINES];
     ask_last(rows, &mut fit[..]);
-    let mut i = 0;
-    while i < n {
+    for i in 0..n {
         if !reached_fit(rows, i, &mut fit[..]) {
             return i;
         }
-        i += 1;
     }
-    i
+    n
 }

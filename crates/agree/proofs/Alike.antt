@@ -47,9 +47,6 @@ pub record Matching (partial a complete d : List ℕ) (k n m i : ℕ) : Type 0 w
   pub left : Comparing (lines_in partial a k) (lines_in complete d k) i
 
 module _ (partial a complete d : List ℕ) (k n m : ℕ) where
-  pub match_start : n ≡ get_or a k 0 → m ≡ get_or d k 0 → Matching partial a complete d k n m 0
-  match_start hn hm = record { mine = hn; theirs = hm; left = omega arith }
-
   module _ (i : ℕ) (g : Matching partial a complete d k n m i) where
     pub match_end : n ≤ i → i ≡ alike (lines_in partial a k) (lines_in complete d k)
     match_end h = none_left (lines_in partial a k) (lines_in complete d k) i g.left (omega (arith, length_lines partial a k, g.mine))

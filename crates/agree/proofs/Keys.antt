@@ -6,11 +6,11 @@ use mathlib.Core.List.{List, [], ◌∷◌}
 use Prim.Native.Nat.{ℕ, zero, suc, ◌+◌, ◌-◌, ◌*◌, ◌≤◌, ◌<◌}
 use native.Mathlib.Numerals.{add-one}
 use native.Mathlib.Omega.{arith}
-use borrow.Author.Tests.{eq-eqb, ne_eqb, le-leb, lt-leb}
-use lib.Dec.{leb, ltb, eqb}
+use borrow.Author.Tests.{eq-eqb, ne_eqb}
+use lib.Dec.{ltb, eqb}
 use lib.ListN.{length, get_or, take}
 use Rattle.cedar.specs.Value.{on_some}
-use Rattle.sheet.specs.Forms.{at, no_key, SHEET, TEXT, VALUE, ENTITY, PRINCIPAL, CONTEXT}
+use Rattle.sheet.specs.Forms.{at, no_key, SHEET, TEXT, VALUE, ENTITY}
 use Rattle.sheet.specs.State.{counts, before, sum}
 use Rattle.sheet.specs.Bytes.{same}
 use Rattle.sheet.specs.Parents.{line_for}
@@ -23,13 +23,6 @@ use Rattle.finished.specs.ByKey.{begin_break, same_break, entity_break, request_
 use Rattle.agree.specs.Breaks.{lines_in, counted, is_request, break_in, lack_in}
 
 -- ---- one key
-
-module _ (k : ℕ) where
-  pub not_request : k < PRINCIPAL → false ≡ is_request k
-  not_request h = rw (lt-leb PRINCIPAL k h)
-
-  pub maybe_request : PRINCIPAL ≤ k → leb k CONTEXT ≡ is_request k
-  maybe_request h = rw (le-leb PRINCIPAL k h)
 
 module _ (partial a complete d : List ℕ) (k n : ℕ) where
   pub text_key : k ≡ TEXT → n ≡ counted (begin_break (lines_in partial a k) (lines_in complete d k) 0) → n ≡ counted (break_in partial a complete d k 0)
@@ -180,15 +173,9 @@ module _ (a d : List ℕ) where
   lack_start = record { left = lacks_are [] a [] d }
 
   module _ (k : ℕ) (g : Lacking a d k) where
-    pub lack_end : no_key ≤ k → false ≡ lacks (held [] a []) (held [] d [])
-    lack_end h = sym (g.left ∙ ap any_of (tab_end (lack_in a d) k no_key h))
-
     module _ (h : k < no_key) (b : Bool) (e : b ≡ lack_in a d k) where
       lack_here : lacks (held [] a []) (held [] d []) ≡ (b || any_of (tab (lack_in a d) (k + 1) (no_key - (k + 1))))
       lack_here = g.left ∙ ap any_of (tab_on (lack_in a d) k no_key h) ∙ ap (λ (t : Bool). t || any_of (tab (lack_in a d) (k + 1) (no_key - (k + 1)))) (sym e)
-
-      pub lack_off : b ≡ true → true ≡ lacks (held [] a []) (held [] d [])
-      lack_off f = sym (lack_here ∙ rw f refl)
 
       pub lack_on : b ≡ false → Lacking a d (k + 1)
       lack_on f = record { left = lack_here ∙ rw f refl }

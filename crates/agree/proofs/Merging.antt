@@ -7,7 +7,7 @@ use Prim.Native.Nat.{ℕ, zero, suc, ◌+◌, ◌≤◌, ◌<◌}
 use native.Mathlib.Nat.{le_refl}
 use native.Mathlib.Numerals.{add-one}
 use native.Mathlib.Omega.{arith}
-use borrow.Author.Tests.{ne_eqb, eqb-false, ltb-true, ltb-false, lt-ltb, le-ltb, not-true, not-false}
+use borrow.Author.Tests.{ne_eqb, eqb-false, ltb-true, ltb-false, not-true, not-false}
 use lib.Dec.{ltb, eqb}
 use lib.ListN.{length, get_or, drop, drop_of_length-le}
 use lib.Seq.{drop-cons, drop-drop}
@@ -113,20 +113,6 @@ module _ (a : List ℕ) (v from n : ℕ) where
   pub seek_start : n ≡ get_or a ENTITY 0 → Seeking v (rows_of a ENTITY) from n from
   seek_start e = record { all = e ∙ sym (count_rows a ENTITY); left = refl }
 
-  module _ (i : ℕ) (g : Seeking v (rows_of a ENTITY) from n i) where
-    pub seek_end : n ≤ i → i ≡ from + below v (drop from (rows_of a ENTITY))
-    seek_end h = let l : length (rows_of a ENTITY) ≤ i = omega (arith, g.all) in sym (g.left ∙ rw (drop_of_length-le (rows_of a ENTITY) l) (omega arith))
-
-    module _ (h : i < n) (r : List ℕ) (er : r ≡ get_or (rows_of a ENTITY) i []) (x : ℕ) (ex : x ≡ get_or r 1 0) where
-      here : below v (drop i (rows_of a ENTITY)) ≡ cond (ltb x v) (suc (below v (drop (i + 1) (rows_of a ENTITY)))) 0
-      here = let l : i < length (rows_of a ENTITY) = omega (arith, g.all) in rw (ex, er, add-one i, drop-cons (rows_of a ENTITY) i []) refl
-
-      pub seek_here : v ≤ x → i ≡ from + below v (drop from (rows_of a ENTITY))
-      seek_here k = sym (g.left ∙ rw (here, le-ltb x v k) (omega arith))
-
-      pub seek_on : x < v → Seeking v (rows_of a ENTITY) from n (i + 1)
-      seek_on k = record { all = g.all; left = g.left ∙ rw (here, lt-ltb x v k) (omega arith) }
-
 -- line n of the entities, if it is that of entity v
 module _ (a : List ℕ) (v n m : ℕ) (em : m ≡ get_or a ENTITY 0) where
   first_none : m ≤ n → first_for v (drop n (rows_of a ENTITY)) ≡ none
@@ -156,14 +142,7 @@ first_some v zero (r ∷ rs) e = go (eqb (at r 0) v) e
 first_some v (suc n) [] e = no_true e
 first_some v (suc n) (r ∷ rs) e = first_some v n rs e
 
-not_first : (o : Option (List ℕ)) (q : List ℕ) → on_some false o (λ r. true) ≡ false → on_some true o (λ r. entity_same r q) ≡ true
-not_first none q e = refl
-not_first (some r) q e = no_true (sym e)
-
 module _ (a q : List ℕ) (n v : ℕ) (b : Bool) (ev : v ≡ get_or q 1 0) (e : b ≡ on_some false (first_for v (drop n (rows_of a ENTITY))) (λ r. true)) where
-  pub agrees_unlisted : not b ≡ true → true ≡ on_some true (first_for (at q 0) (drop n (rows_of a ENTITY))) (λ r. entity_same r q)
-  agrees_unlisted h = sym (not_first (first_for (at q 0) (drop n (rows_of a ENTITY))) q (rw ev at (sym e ∙ not-true b h)))
-
   pub agrees_listed : (r : List ℕ) (t : Bool) → not b ≡ false → r ≡ get_or (rows_of a ENTITY) n [] → t ≡ entity_same r q → t ≡ on_some true (first_for (at q 0) (drop n (rows_of a ENTITY))) (λ r. entity_same r q)
   agrees_listed r t h er et = et ∙ rw (first_some (at q 0) n (rows_of a ENTITY) (rw ev at (sym e ∙ not-false b h)), er) refl
 
@@ -208,11 +187,6 @@ module _ (a d : List ℕ) (n : ℕ) where
   break_start e = record { all = e ∙ sym (count_rows d ENTITY); left = refl }
 
   module _ (i j : ℕ) (g : Breaking a d n i j) where
-    pub break_end : n ≤ i → 0 ≡ counted (entity_break (rows_of a ENTITY) (rows_of d ENTITY) 0)
-    break_end h =
-        let l : length (rows_of d ENTITY) ≤ i = omega (arith, g.all) in
-        sym (ap counted (g.left ∙ ap (λ (x : List (List ℕ)). entity_break (drop j (rows_of a ENTITY)) x i) (drop_of_length-le (rows_of d ENTITY) l)))
-
     module _ (o : Ordered a d) (h : i < n) (q : List ℕ) (eq : q ≡ get_or (rows_of d ENTITY) i []) (v j' : ℕ) (ev : v ≡ get_or q 1 0) (ej : j' ≡ j + below v (drop j (rows_of a ENTITY)))
         (b : Bool) (e : b ≡ on_some true (first_for (at q 0) (drop j' (rows_of a ENTITY))) (λ r. entity_same r q)) where
       break_here : entity_break (rows_of a ENTITY) (rows_of d ENTITY) 0 ≡ cond b (entity_break (drop j' (rows_of a ENTITY)) (drop (i + 1) (rows_of d ENTITY)) (suc i)) (some i)
@@ -234,11 +208,6 @@ module _ (a d : List ℕ) (n : ℕ) where
   list_start e = record { all = e ∙ sym (count_rows a ENTITY); left = refl }
 
   module _ (i j : ℕ) (g : Listing a d n i j) where
-    pub list_end : n ≤ i → false ≡ unlisted_in (rows_of a ENTITY) (rows_of d ENTITY)
-    list_end h =
-        let l : length (rows_of a ENTITY) ≤ i = omega (arith, g.all) in
-        sym (g.left ∙ ap (λ (x : List (List ℕ)). unlisted_in x (drop j (rows_of d ENTITY))) (drop_of_length-le (rows_of a ENTITY) l))
-
     module _ (o : Ordered a d) (h : i < n) (r : List ℕ) (er : r ≡ get_or (rows_of a ENTITY) i []) (v j' : ℕ) (ev : v ≡ get_or r 1 0) (ej : j' ≡ j + below v (drop j (rows_of d ENTITY)))
         (b : Bool) (e : b ≡ on_some false (first_for v (drop j' (rows_of d ENTITY))) (λ q. true)) where
       list_here : unlisted_in (rows_of a ENTITY) (rows_of d ENTITY) ≡ cond b (unlisted_in (drop (i + 1) (rows_of a ENTITY)) (drop j' (rows_of d ENTITY))) true

@@ -13,7 +13,6 @@ ghost use Rattle.finished.specs.ByKey.{begin_break, same_break, entity_break, re
 ghost use Rattle.agree.specs.Breaks.{lines_in, counted, alike, Ordered, below, first_for, is_request, break_in, lack_in};
 
 use forms::{CONTEXT, ENTITY, MARK, NO_KEY, PRINCIPAL, SHEET, TEXT, VALUE};
-use scan::{same_bytes, same_words};
 use table::{bytes, count, item, row, tag};
 
 // ---- whole lines
@@ -34,7 +33,7 @@ fn same_text(partial: &[u8], left: &[u32], complete: &[u8], right: &[u32]) -> bo
     if tag(left) != tag(right) {
         return false;
     }
-    same_bytes(text_of(partial, left), text_of(complete, right))
+    text_of(partial, left) == text_of(complete, right)
 }
 
 // Whether line `number` of a key is the same on both sheets.
@@ -53,7 +52,7 @@ fn same_line(
     if key == TEXT {
         return same_text(partial, left, complete, right);
     }
-    same_words(left, right)
+    left == right
 }
 
 // How many lines of a key both sheets begin with that are the same.
@@ -62,17 +61,15 @@ fn same_lines(partial: &[u8], rows: &[u32], complete: &[u8], others: &[u32], key
 {
     let n = count(rows, key);
     let m = count(others, key);
-    let mut i = 0;
-    while i < n {
+    for i in 0..n {
         if i >= m {
             return i;
         }
         if !same_line(partial, rows, complete, others, key, i) {
             return i;
         }
-        i += 1;
     }
-    i
+    n
 }
 
 // The first line of a key that breaks agreement, counted from 1, where lines may be added; 0 where none does.
@@ -152,14 +149,12 @@ fn seek(rows: &[u32], from: u32, value: u32) -> u32
     ensures { result ≡ from + below value (drop from (rows_of rows.now ENTITY)) }
 {
     let n = count(rows, ENTITY);
-    let mut i = from;
-    while i < n {
+    for i in from..n {
         if item(row(rows, ENTITY, i), 1) >= value {
             return i;
         }
-        i += 1;
     }
-    i
+    n.max(from)
 }
 
 // Whether entity line `number` is that of entity `value`.
@@ -188,15 +183,13 @@ fn entity_break(rows: &[u32], others: &[u32]) -> u32
     ensures { result ≡ counted (entity_break (rows_of rows.now ENTITY) (rows_of others.now ENTITY) 0) }
 {
     let n = count(others, ENTITY);
-    let mut i = 0;
     let mut j = 0;
-    while i < n {
+    for i in 0..n {
         let right = row(others, ENTITY, i);
         j = seek(rows, j, item(right, 1));
         if !line_agrees(rows, j, right) {
             return i + 1;
         }
-        i += 1;
     }
     0
 }
@@ -207,15 +200,13 @@ fn any_unlisted(rows: &[u32], others: &[u32]) -> bool
     ensures { result ≡ unlisted_in (rows_of rows.now ENTITY) (rows_of others.now ENTITY) }
 {
     let n = count(rows, ENTITY);
-    let mut i = 0;
     let mut j = 0;
-    while i < n {
+    for i in 0..n {
         let value = item(row(rows, ENTITY, i), 1);
         j = seek(others, j, value);
         if !is_line_of(others, j, value) {
             return true;
         }
-        i += 1;
     }
     false
 }
@@ -271,12 +262,10 @@ fn lacks(rows: &[u32], others: &[u32]) -> bool
     requires { Ordered rows.now others.now }
     ensures { result ≡ lacks (held [] rows.now []) (held [] others.now []) }
 {
-    let mut key = TEXT;
-    while key < NO_KEY {
+    for key in TEXT..NO_KEY {
         if key_lacks(rows, others, key) {
             return true;
         }
-        key += 1;
     }
     false
 }
@@ -288,14 +277,12 @@ pub fn breaking_line(partial: &[u8], rows: &[u32], complete: &[u8], others: &[u3
     ensures { result ≡ passed_line (held partial.now rows.now []) (held complete.now others.now []) }
 {
     let mut before = count(others, SHEET) as usize;
-    let mut key = TEXT;
-    while key < NO_KEY {
+    for key in TEXT..NO_KEY {
         let n = key_break(partial, rows, complete, others, key);
         if n != 0 {
             return before + n as usize;
         }
         before += count(others, key) as usize;
-        key += 1;
     }
     if lacks(rows, others) {
         return before + 1;

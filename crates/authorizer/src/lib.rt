@@ -24,12 +24,10 @@ fn answered(
     requires { (length rows.old ≡ 16384) × (length work.old ≡ 16384) }
     ensures { Answers (mode_of partial) sheet.now out.old result.number result.line result.length out.new }
 {
-    let o = open(sheet, partial, rows, work);
-    let number = o.number;
-    if number != 0 {
+    if let Err(refusal) = open(sheet, partial, rows, work) {
         return Returned {
-            number,
-            line: o.line,
+            number: refusal.fault.into(),
+            line: refusal.line,
             length: 0,
         };
     }

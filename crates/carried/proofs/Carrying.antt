@@ -1,11 +1,12 @@
 -- The laws of the functions that carry values over, one for each way. Assumes nothing.
 use mathlib.Core.Path.{◌≡◌, refl, sym, ap, ap₂, ◌∙◌}
 use mathlib.Core.List.{List, [], ◌∷◌}
-use Prim.Native.Nat.{ℕ, suc, ◌+◌, ◌-◌, ◌≤◌, ◌<◌}
+use Prim.Native.Nat.{ℕ, zero, suc, ◌+◌, ◌-◌, ◌/◌, ◌≤◌, ◌<◌}
 use native.Mathlib.Omega.{arith}
 use native.Mathlib.Numerals.{add-one}
 use borrow.Author.Tests.{lt-ltb, le-ltb, eq-eqb, ne_eqb}
 use lib.ListN.{length, get_or, take, drop, set}
+use Rattle.std.specs.Simd.{first_chunks}
 use Rattle.words.specs.Log.{part, Room, Holds, Appended, appended, pushed}
 use Rattle.words.proofs.Logs.{append_holds, append_room}
 use Rattle.sheet.specs.Forms.{tag, VALUE}
@@ -29,71 +30,74 @@ there_made g ns v x h e = rw (le-ltb v g h) e
 
 -- ---- the members of a set
 
--- the members from place i on are still to be pushed
-pub record Members (line : List ℕ) (f : ℕ → ℕ) (b : List ℕ) (end i : ℕ) : Type 0 where
+-- of the members of a row those from number i on are still to be pushed
+pub record Members (list : List ℕ) (f : ℕ → ℕ) (b : List ℕ) (end i : ℕ) : Type 0 where
   pub room : Room b end
-  pub left : member_rows f (drop i line) (take end b) ≡ member_rows f (drop 1 line) []
+  pub left : member_rows f (drop i list) (take end b) ≡ member_rows f list []
 
-pub members_start : (line : List ℕ) (f : ℕ → ℕ) (b : List ℕ) → 16384 ≤ length b → Members line f b 0 1
-members_start line f b h = record { room = record { low = omega arith; long = h }; left = refl }
+pub members_start : (list : List ℕ) (f : ℕ → ℕ) (b : List ℕ) → 16384 ≤ length b → Members list f b 0 0
+members_start list f b h = record { room = record { low = omega arith; long = h }; left = refl }
 
-module _ (line : List ℕ) (f : ℕ → ℕ) (b : List ℕ) (end i : ℕ) (m : Members line f b end i) where
-  pub members_more : (x : ℕ) (b₁ : List ℕ) (e : ℕ) → i < length line → x ≡ f (get_or line i 0) → Appended b end (lit_row x 0) b₁ e → Members line f b₁ e (i + 1)
+module _ (list : List ℕ) (f : ℕ → ℕ) (b : List ℕ) (end i : ℕ) (m : Members list f b end i) where
+  pub members_more : (x : ℕ) (b₁ : List ℕ) (e : ℕ) → i < length list → x ≡ f (get_or list i 0) → Appended b end (lit_row x 0) b₁ e → Members list f b₁ e (i + 1)
   unfolding member_rows
   members_more x b₁ e h ex p = record {
     room = append_room m.room p;
     left =
-        ap (member_rows f (drop (i + 1) line)) ((append_holds m.room p).is ∙ ap (λ (y : ℕ). appended (take end b) (lit_row y 0)) ex)
-        ∙ sym (ap (λ (l : List ℕ). member_rows f l (take end b)) (uncons line 0 i h)) ∙ m.left;
+        ap (member_rows f (drop (i + 1) list)) ((append_holds m.room p).is ∙ ap (λ (y : ℕ). appended (take end b) (lit_row y 0)) ex)
+        ∙ sym (ap (λ (l : List ℕ). member_rows f l (take end b)) (uncons list 0 i h)) ∙ m.left;
   }
 
-  pub members_end : length line ≤ i → Holds 0 b end (member_rows f (drop 1 line) [])
+  pub members_end : length list ≤ i → (line : List ℕ) → list ≡ drop 1 line → Holds 0 b end (member_rows f (drop 1 line) [])
   unfolding member_rows
-  members_end h = record { is = sym (ap (λ (l : List ℕ). member_rows f l (take end b)) (spent line i h)) ∙ m.left; low = m.room.low; grows = omega arith }
-
--- ---- the fields of a record
-
-pub record Fields (line : List ℕ) (f : ℕ → ℕ) (b : List ℕ) (end i : ℕ) : Type 0 where
-  pub room : Room b end
-  pub left : fields_onto f (drop i line) (take end b) ≡ field_words f (drop 1 line)
-
-pub fields_start : (line : List ℕ) (f : ℕ → ℕ) (b b₁ : List ℕ) (e : ℕ) → 16384 ≤ length b → Appended b 0 (RECORD_VALUE ∷ []) b₁ e → Fields line f b₁ e 1
-unfolding field_words
-fields_start line f b b₁ e h p =
-    let room : Room b 0 = record { low = omega arith; long = h } in
-    record { room = append_room room p; left = ap (fields_onto f (drop 1 line)) (append_holds room p).is }
-
-fields_none : (f : ℕ → ℕ) (l m : List ℕ) → length l ≤ 1 → fields_onto f l m ≡ m
-unfolding fields_onto
-fields_none f [] m h = refl
-fields_none f (x ∷ []) m h = refl
-fields_none f (x ∷ y ∷ l) m h = absurd (omega arith)
-
-module _ (line : List ℕ) (f : ℕ → ℕ) (b : List ℕ) (end i : ℕ) (m : Fields line f b end i) where
-  pub fields_more : (v t : ℕ) (b₁ b₂ : List ℕ) (e e₂ : ℕ) → i + 2 ≤ length line → v ≡ f (get_or line (i + 1) 0) → t ≡ get_or line i 0 → Appended b end (t ∷ []) b₁ e → Appended b₁ e (v ∷ []) b₂ e₂ → Fields line f b₂ e₂ (i + 2)
-  unfolding fields_onto
-  fields_more v t b₁ b₂ e e₂ h ev et p q =
-      let room₁ = append_room m.room p in
-      let z : i + 1 + 1 ≡ i + 2 = omega arith in
-      let two : drop i line ≡ get_or line i 0 ∷ get_or line (i + 1) 0 ∷ drop (i + 2) line =
-      uncons line 0 i (omega (arith, h)) ∙ ap (λ (l : List ℕ). get_or line i 0 ∷ l) (uncons line 0 (i + 1) (omega (arith, h)) ∙ ap (λ (j : ℕ). get_or line (i + 1) 0 ∷ drop j line) z) in
-      record {
-        room = append_room room₁ q;
-        left =
-            ap (fields_onto f (drop (i + 2) line))
-            ((append_holds room₁ q).is ∙ ap₂ pushed ((append_holds m.room p).is ∙ ap (pushed (take end b)) et) ev)
-            ∙ sym (ap (λ (l : List ℕ). fields_onto f l (take end b)) two) ∙ m.left;
-      }
-
-  pub fields_end : length line < i + 2 → Holds 0 b end (field_words f (drop 1 line))
-  fields_end h = record {
-    is = sym (fields_none f (drop i line) (take end b) (few i h)) ∙ m.left;
+  members_end h line e = record {
+    is = sym (ap (λ (l : List ℕ). member_rows f l (take end b)) (spent list i h)) ∙ m.left ∙ ap (λ (l : List ℕ). member_rows f l []) e;
     low = m.room.low;
     grows = omega arith;
   }
-    where
-      few : (j : ℕ) → length line < j + 2 → length (drop j line) ≤ 1
-      few j k = omega (arith, k, lib.ListN.length-drop j line)
+
+-- ---- the fields of a record
+
+-- the same of pairs of a text and a value
+abbrev pub pairs_onto : (ℕ → ℕ) → List (List ℕ) → List ℕ → List ℕ
+pairs_onto f [] l = l
+pairs_onto f (q ∷ s) l = pairs_onto f s (pushed (pushed l (get_or q 0 0)) (f (get_or q 1 0)))
+
+pairs_are : (f : ℕ → ℕ) (n : ℕ) (xs l : List ℕ) → n ≡ length xs / 2 → pairs_onto f (first_chunks 2 n xs) l ≡ fields_onto f xs l
+unfolding fields_onto
+pairs_are f n [] l e = let z : n ≡ 0 = omega arith in rw z
+pairs_are f n (t ∷ []) l e = let z : n ≡ 0 = omega arith in rw z
+pairs_are f zero (t ∷ v ∷ xs) l e = absurd (omega arith)
+pairs_are f (suc n) (t ∷ v ∷ xs) l e = pairs_are f n xs (pushed (pushed l t) (f v)) (omega arith)
+
+pub record Fields (s : List (List ℕ)) (f : ℕ → ℕ) (b : List ℕ) (end i : ℕ) : Type 0 where
+  pub room : Room b end
+  pub left : pairs_onto f (drop i s) (take end b) ≡ pairs_onto f s (pushed [] RECORD_VALUE)
+
+pub fields_start : (s : List (List ℕ)) (f : ℕ → ℕ) (b b₁ : List ℕ) (e : ℕ) → 16384 ≤ length b → Appended b 0 (RECORD_VALUE ∷ []) b₁ e → Fields s f b₁ e 0
+fields_start s f b b₁ e h p =
+    let room : Room b 0 = record { low = omega arith; long = h } in
+    record { room = append_room room p; left = ap (pairs_onto f s) (append_holds room p).is }
+
+module _ (s : List (List ℕ)) (f : ℕ → ℕ) (b : List ℕ) (end i : ℕ) (m : Fields s f b end i) where
+  pub fields_more : (d : List ℕ) → i < length s → (b₁ b₂ : List ℕ) (e e₂ v : ℕ) → Appended b end (get_or (get_or s i d) 0 0 ∷ []) b₁ e → v ≡ f (get_or (get_or s i d) 1 0) → Appended b₁ e (v ∷ []) b₂ e₂ → Fields s f b₂ e₂ (i + 1)
+  fields_more d h b₁ b₂ e e₂ v p ev q =
+      let room₁ = append_room m.room p in
+      record {
+        room = append_room room₁ q;
+        left =
+            ap (pairs_onto f (drop (i + 1) s)) ((append_holds room₁ q).is ∙ ap₂ pushed (append_holds m.room p).is ev)
+            ∙ sym (ap (λ (l : List (List ℕ)). pairs_onto f l (take end b)) (uncons s d i h)) ∙ m.left;
+      }
+
+  pub fields_end : length s ≤ i → (line xs : List ℕ) → s ≡ first_chunks 2 (length xs / 2) xs → xs ≡ drop 1 line → Holds 0 b end (field_words f (drop 1 line))
+  unfolding field_words
+  fields_end h line xs es ex = record {
+    is = sym (ap (λ (l : List (List ℕ)). pairs_onto f l (take end b)) (spent s i h)) ∙ m.left ∙ ap (λ (l : List (List ℕ)). pairs_onto f l (pushed [] RECORD_VALUE)) es
+        ∙ pairs_are f (length xs / 2) xs (pushed [] RECORD_VALUE) refl ∙ ap (λ (l : List ℕ). fields_onto f l (pushed [] RECORD_VALUE)) ex;
+    low = m.room.low;
+    grows = omega arith;
+  }
 
 -- ---- one value
 

@@ -5,14 +5,15 @@ use mathlib.Core.List.{List, [], ◌∷◌}
 use Prim.Native.Nat.{ℕ, zero, suc, ◌+◌, ◌-◌, ◌≤◌, ◌<◌}
 use native.Mathlib.Numerals.{add-one}
 use native.Mathlib.Omega.{arith}
-use borrow.Author.Tests.{ne_eqb, lt-leb, le-leb, leb-true, not-true, not-false}
+use borrow.Author.Tests.{ne_eqb, lt-leb, le-leb, leb-true}
 use lib.Dec.{leb, ltb}
-use lib.ListN.{length, get_or, length-drop}
-use lib.Seq.{get_or-drop}
+use lib.ListN.{length, get_or}
 use Rattle.cedar.specs.Numbered.{mem_n}
-use Rattle.sheet.specs.Forms.{Form, forms, form_of, no_form, tag, items, at, every_from, refs, ascendings, TEXT, KIND, TYPE, VALUE, ENTITY, NODE, POLICY, LINK, TERM, no_key}
+use Rattle.std.specs.Prelude.{Some, None}
+use Rattle.std.proofs.lemmas.Option.{none-some}
+use Rattle.sheet.specs.Forms.{Form, forms, form_of, no_form, tag, items, at, every_from, ascendings, TEXT, KIND, TYPE, VALUE, ENTITY, NODE, POLICY, LINK, TERM, no_key}
 use Rattle.sheet.specs.State.{line_at, count}
-use Rattle.sheet.specs.Sheet.{all_there, ascend, among, firsts, above, new_type, slot_given, term_goes, fresh, found, deepest, depth}
+use Rattle.sheet.specs.Sheet.{all_there, ascend, among, firsts, above, new_type, slot_given, term_goes, fresh, found, depth}
 use Rattle.table.specs.Layout.{held, rows_of}
 use Rattle.table.proofs.Rows.{count_held, lines_held_law}
 use Rattle.forms.specs.declared.Form as F
@@ -65,9 +66,6 @@ has_group t e = leb-true 1 (length (form_of t).group) (ap (λ (b : Bool). cond b
 pub record Rising (r : List ℕ) (m lo j : ℕ) : Type 0 where
   pub left : ascend 0 (ascendings r) ≡ ascend lo (every_from m j (items r))
   pub step : 1 ≤ m
-  pub short : m ≤ 3
-  pub low : lo ≤ 4294967296
-  pub near : j ≤ length r + 4
 
 rises_none : (r : List ℕ) (t : ℕ) → t ≡ tag r → (form_of t).ascends ≡ false → true ≡ ascend 0 (ascendings r)
 unfolding ascendings
@@ -89,27 +87,21 @@ module _ (r : List ℕ) (t : ℕ) (q : F.Form) (ht : t ≡ tag r) (e : q ≡ cod
       record {
         left = rw (← ht, s.0, ← g.0, ← s.1) refl;
         step = omega (arith, g.0, has_group t s.0);
-        short = g.1;
-        low = omega arith;
-        near = omega (arith, s.2);
       }
 
-items_at : (r : List ℕ) (j : ℕ) → get_or (items r) j 0 ≡ get_or r (j + 1) 0
-items_at r j = let e : 1 + j ≡ j + 1 = omega arith in get_or-drop 1 r j 0 ∙ ap (λ (i : ℕ). get_or r i 0) e
-
 module _ (r : List ℕ) (m lo j : ℕ) (i : Rising r m lo j) where
-  module _ (x : ℕ) (h : j + 1 < length r) (hx : x ≡ get_or r (j + 1) 0) where
+  module _ (x : ℕ) (h : j < length (items r)) (hx : x ≡ get_or (items r) j 0) where
     rising_at : ascend 0 (ascendings r) ≡ (leb lo x && ascend (x + 1) (every_from m (j + m) (items r)))
-    rising_at = i.left ∙ rw (every_on m (items r) j i.step (rw (length-drop 1 r) (omega arith)), items_at r j, ← hx, add-one x) refl
+    rising_at = i.left ∙ rw (every_on m (items r) j i.step h, ← hx, add-one x) refl
 
     pub rising_off : x < lo → false ≡ ascend 0 (ascendings r)
     rising_off l = sym (rising_at ∙ rw (lt-leb lo x l) refl)
 
-    pub rising_on : lo ≤ x → x < 4294967296 → Rising r m (x + 1) (j + m)
-    rising_on l small = record { left = rising_at ∙ rw (le-leb lo x l) refl; step = i.step; short = i.short; low = omega arith; near = omega (arith, i.short) }
+    pub rising_on : lo ≤ x → Rising r m (x + 1) (j + m)
+    rising_on l = record { left = rising_at ∙ rw (le-leb lo x l) refl; step = i.step }
 
-  pub rising_end : length r ≤ j + 1 → true ≡ ascend 0 (ascendings r)
-  rising_end h = sym (i.left ∙ ap (ascend lo) (every_end m (items r) j (rw (length-drop 1 r) (omega arith))))
+  pub rising_end : length (items r) ≤ j → true ≡ ascend 0 (ascendings r)
+  rising_end h = sym (i.left ∙ ap (ascend lo) (every_end m (items r) j h))
 
 -- ---- order of entities, links and terms
 
@@ -130,11 +122,11 @@ pub goes_days : (r : List ℕ) (x y : ℕ) → x ≡ get_or r 2 0 → y ≡ get_
 goes_days r x y hx hy = ap₂ leb hx hy
 
 module _ (a r : List ℕ) (b : Bool) (hb : b ≡ above (rows_held a) TERM r) where
-  pub term_below : not b ≡ true → false ≡ (above (rows_held a) TERM r && term_goes r)
-  term_below n = sym (rw (← hb, not-true b n) refl)
+  pub term_below : b ≡ false → false ≡ (above (rows_held a) TERM r && term_goes r)
+  term_below n = sym (rw (← hb, n) refl)
 
-  pub term_above : not b ≡ false → (v : Bool) → v ≡ term_goes r → v ≡ (above (rows_held a) TERM r && term_goes r)
-  term_above n v hv = hv ∙ sym (rw (← hb, not-false b n) refl)
+  pub term_above : b ≡ true → (v : Bool) → v ≡ term_goes r → v ≡ (above (rows_held a) TERM r && term_goes r)
+  term_above n v hv = hv ∙ sym (rw (← hb, n) refl)
 
 -- ---- new lines
 
@@ -171,37 +163,37 @@ module _ (a : List ℕ) (k : ℕ) (r : List ℕ) where
 
   -- ---- all of 5, with the depth of 6
 
-  module _ (b : List ℕ) (d : ℕ) (hd : d ≡ there_depth a b k r) where
-    pub new_absent : d ≡ 0 → 0 ≡ cond (found (rows_held a) k r) (depth (held [] a b) k r) 0
-    unfolding there_depth found depth
-    new_absent z = go (all_there (rows_held a) (tag r) 0 (items r)) (sym z ∙ hd)
+  module _ (b : List ℕ) where
+    pub new_absent : None ≡ there_depth a b k r → None ≡ cond (found (rows_held a) k r) (Some (depth (held [] a b) k r)) None
+    unfolding there_depth found
+    new_absent e = go (all_there (rows_held a) (tag r) 0 (items r)) e
       where
-        go : (t : Bool) → 0 ≡ cond t (suc (deepest (held [] a b) k (refs k r))) 0 → 0 ≡ cond (t && ascend 0 (ascendings r) && fresh (rows_held a) k r) (suc (deepest (held [] a b) k (refs k r))) 0
-        go true e = absurd (omega arith)
+        go : (t : Bool) → None ≡ cond t (Some (depth (held [] a b) k r)) None → None ≡ cond (t && ascend 0 (ascendings r) && fresh (rows_held a) k r) (Some (depth (held [] a b) k r)) None
+        go true e = absurd (none-some _ e)
         go false e = refl
 
-    module _ (n : d ≡ 0 → ⊥) (u : Bool) (hu : u ≡ ascend 0 (ascendings r)) where
+    module _ (d : ℕ) (hd : Some d ≡ there_depth a b k r) where
       all_there_law : all_there (rows_held a) (tag r) 0 (items r) ≡ true
       unfolding there_depth
       all_there_law = go (all_there (rows_held a) (tag r) 0 (items r)) hd
         where
-          go : (t : Bool) → d ≡ cond t (depth (held [] a b) k r) 0 → t ≡ true
+          go : (t : Bool) → Some d ≡ cond t (Some (depth (held [] a b) k r)) None → t ≡ true
           go true e = refl
-          go false e = absurd (n e)
+          go false e = absurd (none-some _ (sym e))
 
-      pub new_falls : not u ≡ true → 0 ≡ cond (found (rows_held a) k r) (depth (held [] a b) k r) 0
+      pub new_falls : ascend 0 (ascendings r) ≡ false → None ≡ cond (found (rows_held a) k r) (Some (depth (held [] a b) k r)) None
       unfolding found
-      new_falls m = sym (rw (all_there_law, ← hu, not-true u m) refl)
+      new_falls u = sym (rw (all_there_law, u) refl)
 
-      module _ (m : not u ≡ false) (v : Bool) (hv : v ≡ fresh (rows_held a) k r) where
-        pub new_again : not v ≡ true → 0 ≡ cond (found (rows_held a) k r) (depth (held [] a b) k r) 0
+      module _ (u : ascend 0 (ascendings r) ≡ true) where
+        pub new_again : fresh (rows_held a) k r ≡ false → None ≡ cond (found (rows_held a) k r) (Some (depth (held [] a b) k r)) None
         unfolding found
-        new_again l = sym (rw (all_there_law, ← hu, not-false u m, ← hv, not-true v l) refl)
+        new_again v = sym (rw (all_there_law, u, v) refl)
 
-        pub new_deep : not v ≡ false → d ≡ cond (found (rows_held a) k r) (depth (held [] a b) k r) 0
+        pub new_deep : fresh (rows_held a) k r ≡ true → Some d ≡ cond (found (rows_held a) k r) (Some (depth (held [] a b) k r)) None
         unfolding found there_depth
-        new_deep l = hd ∙ rw (all_there_law, ← hu, not-false u m, ← hv, not-false v l) refl
+        new_deep v = hd ∙ rw (all_there_law, u, v) refl
 
 -- a node may repeat another
-pub node_deep : (a r b : List ℕ) (d : ℕ) → d ≡ there_depth a b NODE r → (d ≡ 0 → ⊥) → (u : Bool) → u ≡ ascend 0 (ascendings r) → not u ≡ false → d ≡ cond (found (rows_held a) NODE r) (depth (held [] a b) NODE r) 0
-node_deep a r b d hd n u hu m = new_deep a NODE r b d hd n u hu m true (fresh_node a NODE r refl) refl
+pub node_deep : (a r b : List ℕ) (d : ℕ) → Some d ≡ there_depth a b NODE r → ascend 0 (ascendings r) ≡ true → Some d ≡ cond (found (rows_held a) NODE r) (Some (depth (held [] a b) NODE r)) None
+node_deep a r b d hd u = new_deep a NODE r b d hd u (sym (fresh_node a NODE r refl))

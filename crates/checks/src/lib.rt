@@ -1,8 +1,9 @@
 // The checks of one row against the rows that the words hold: limits, references, repeats, order, depth.
 #![tactic(auto)]
 
-ghost use Rattle.std.specs.Prelude.{◌≡◌, [], true, cond, ◌&&◌, not, ◌≤◌, ◌<◌, eqb, length};
-ghost use Rattle.sheet.specs.Forms.{key_of, ascendings, mark, no_key, TEXT, TYPE, NODE, LINK, TERM};
+ghost use Rattle.std.specs.Prelude.{◌≡◌, [], true, cond, ◌&&◌, ◌||◌, not, ◌≤◌, ◌<◌, eqb, length};
+ghost use Rattle.std.specs.List.{list_all};
+ghost use Rattle.sheet.specs.Forms.{key_of, ascendings, alone_row, mark, no_key, TEXT, TYPE, NODE, LINK, TERM};
 ghost use Rattle.sheet.specs.State.{type_row};
 ghost use Rattle.sheet.specs.Typing.{on_entity};
 ghost use Rattle.sheet.specs.Sheet.{too_many, ascend, among, above, each_alone, new_type, slot_given, term_goes, fresh, found, depth};
@@ -16,21 +17,15 @@ use forms::{
 };
 use order::is_full;
 use repeats::{is_first, is_row};
-use table::{count, item, row, tag};
-use uses::{FOR_PRINCIPAL, FOR_RESOURCE, MANY, NO_SLOT, slots_at, uses_with};
+use table::{count, item, items, row, tag};
+use uses::{FOR_BOTH, FOR_PRINCIPAL, FOR_RESOURCE, MANY, noted, uses_with};
 
 // Whether a row of a key is one too many, or its policy uses too many nodes.
 pub fn too_many(rows: &[u32], work: &[u32], key: usize, line: &[u32]) -> bool
     requires { Noted rows.now work.now }
     ensures { result ≡ too_many (held [] rows.now []) key line.now }
 {
-    if is_full(rows, key) {
-        return true;
-    }
-    if key == POLICY {
-        return uses_with(rows, work, line) == MANY;
-    }
-    false
+    is_full(rows, key) || (key == POLICY && uses_with(rows, work, line) == MANY)
 }
 
 // Whether the items of a row that must ascend do. Of a node's none must, before sets and records.
@@ -38,25 +33,21 @@ fn ascends(line: &[u32]) -> bool
     ensures { result ≡ ascend 0 (ascendings line.now) }
 {
     let t = tag(line);
-    if t >= LIT {
-        if t < SET_OF {
-            return true;
-        }
-    }
-    let f = form_of(t);
-    if f.from == FLAT {
+    if t >= LIT && t < SET_OF {
         return true;
     }
-    let m = f.group;
-    let mut lo: usize = 0;
-    let mut j = f.from;
-    while j + 1 < line.len() {
-        let x = item(line, j + 1) as usize;
-        if x < lo {
+    let form = form_of(t);
+    if form.from == FLAT {
+        return true;
+    }
+    let items = items(line);
+    let mut least: usize = 0;
+    for j in (form.from..items.len()).step_by(form.group) {
+        let x = items[j] as usize;
+        if x < least {
             return false;
         }
-        lo = x + 1;
-        j += m;
+        least = x + 1;
     }
     true
 }
@@ -66,10 +57,7 @@ fn is_new(rows: &[u32], key: usize, line: &[u32], new: bool) -> bool
     requires { (1 ≤ length line.now) × Unlike line.now (rows_of rows.now key) new }
     ensures { result ≡ not (among line.now (rows_of rows.now key)) }
 {
-    if new {
-        return true;
-    }
-    !is_row(rows, key, line)
+    new || !is_row(rows, key, line)
 }
 
 // Whether a line of a key comes after the last one.
@@ -78,33 +66,27 @@ fn is_above(rows: &[u32], key: usize, line: &[u32]) -> bool
     ensures { result ≡ above (held [] rows.now []) key line.now }
 {
     let n = count(rows, key);
-    if n == 0 {
-        return true;
-    }
-    let x = item(row(rows, key, n - 1), 1);
-    x < item(line, 1)
+    n == 0 || item(row(rows, key, n - 1), 1) < item(line, 1)
+}
+
+// Whether each of some kinds has a type line alone.
+fn each_alone(rows: &[u32], kinds: &[u32]) -> bool
+    ensures { result ≡ list_all (λ kind. among (alone_row kind) (rows_of rows.now TYPE)) kinds.now }
+{
+    kinds
+        .iter()
+        .all(|&kind| is_row(rows, TYPE, &[ENTITY_TYPE, kind]))
 }
 
 // Whether each kind of a group, of two or more, has a type line alone.
 fn kinds_alone(rows: &[u32], line: &[u32]) -> bool
     ensures { result ≡ on_entity true (type_row line.now) (each_alone (rows_of rows.now TYPE)) }
 {
-    let t = tag(line);
-    if t != ENTITY_TYPE {
+    if tag(line) != ENTITY_TYPE {
         return true;
     }
-    if line.len() < 3 {
-        return true;
-    }
-    let mut i: usize = 1;
-    while i < line.len() {
-        let kind = item(line, i);
-        if !is_row(rows, TYPE, &[ENTITY_TYPE, kind]) {
-            return false;
-        }
-        i += 1;
-    }
-    true
+    let kinds = items(line);
+    kinds.len() < 2 || each_alone(rows, kinds)
 }
 
 // Whether a type line repeats no other, as is known where it is `new`, and the kinds that it groups have lines alone.
@@ -112,20 +94,21 @@ fn is_type(rows: &[u32], line: &[u32], new: bool) -> bool
     requires { (1 ≤ length line.now) × Unlike line.now (rows_of rows.now TYPE) new }
     ensures { result ≡ new_type (held [] rows.now []) line.now }
 {
-    if !is_new(rows, TYPE, line, new) {
-        return false;
-    }
-    kinds_alone(rows, line)
+    is_new(rows, TYPE, line, new) && kinds_alone(rows, line)
 }
 
 // Whether a value is given where there is a slot for it, and none where there is not.
 fn is_given(there: bool, value: u32) -> bool
     ensures { result ≡ cond there (not (eqb value mark)) (eqb value mark) }
 {
-    if there {
-        return value != MARK;
-    }
-    value == MARK
+    there != (value == MARK)
+}
+
+// Whether this slot is among those of a node, which are one or both.
+fn has(slots: u32, slot: u32) -> bool
+    ensures { result ≡ (eqb slots slot || eqb slots FOR_BOTH) }
+{
+    slots == slot || slots == FOR_BOTH
 }
 
 // Whether a link line gives a value to each slot of its policy, and no other.
@@ -134,34 +117,9 @@ fn slots_given(rows: &[u32], work: &[u32], line: &[u32]) -> bool
     ensures { result ≡ slot_given (held [] rows.now []) line.now 0 && slot_given (held [] rows.now []) line.now 1 }
 {
     let root = item(row(rows, POLICY, item(line, 1)), 3);
-    let p = item(line, 2);
-    let q = item(line, 3);
-    match slots_at(rows, work, root) {
-        NO_SLOT => {
-            if !is_given(false, p) {
-                return false;
-            }
-            is_given(false, q)
-        }
-        FOR_PRINCIPAL => {
-            if !is_given(true, p) {
-                return false;
-            }
-            is_given(false, q)
-        }
-        FOR_RESOURCE => {
-            if !is_given(false, p) {
-                return false;
-            }
-            is_given(true, q)
-        }
-        _ => {
-            if !is_given(true, p) {
-                return false;
-            }
-            is_given(true, q)
-        }
-    }
+    let slots = noted(rows, work, root).slots;
+    is_given(has(slots, FOR_PRINCIPAL), item(line, 2))
+        && is_given(has(slots, FOR_RESOURCE), item(line, 3))
 }
 
 // Whether a link line comes after the last one and gives its policy's slots their values.
@@ -169,10 +127,7 @@ fn is_link(rows: &[u32], work: &[u32], line: &[u32]) -> bool
     requires { Noted rows.now work.now }
     ensures { result ≡ above (held [] rows.now []) LINK line.now && (slot_given (held [] rows.now []) line.now 0 && slot_given (held [] rows.now []) line.now 1) }
 {
-    if !is_above(rows, LINK, line) {
-        return false;
-    }
-    slots_given(rows, work, line)
+    is_above(rows, LINK, line) && slots_given(rows, work, line)
 }
 
 // Whether the last day of a term is not before its first.
@@ -186,10 +141,7 @@ fn term_goes(line: &[u32]) -> bool
 fn is_term(rows: &[u32], line: &[u32]) -> bool
     ensures { result ≡ above (held [] rows.now []) TERM line.now && term_goes line.now }
 {
-    if !is_above(rows, TERM, line) {
-        return false;
-    }
-    term_goes(line)
+    is_above(rows, TERM, line) && term_goes(line)
 }
 
 // Whether a row of a key, which is not that of a text, repeats no other, as is known where it is `new`, and keeps their order.
@@ -198,59 +150,41 @@ fn is_fresh(rows: &[u32], work: &[u32], key: usize, line: &[u32], new: bool) -> 
     requires noted { Noted rows.now work.now × Unlike line.now (rows_of rows.now key) new }
     ensures { result ≡ fresh (held [] rows.now []) key line.now }
 {
-    if key == TYPE {
-        return is_type(rows, line, new);
+    match key {
+        TYPE => is_type(rows, line, new),
+        VALUE => is_new(rows, key, line, new),
+        KIND => !is_first(rows, key, item(line, 1)),
+        POLICY => !is_first(rows, key, item(line, 1)),
+        ENTITY => is_above(rows, ENTITY, line),
+        LINK => is_link(rows, work, line),
+        TERM => is_term(rows, line),
+        _ => true,
     }
-    if key == VALUE {
-        return is_new(rows, key, line, new);
-    }
-    if key == KIND {
-        return !is_first(rows, key, item(line, 1));
-    }
-    if key == POLICY {
-        return !is_first(rows, key, item(line, 1));
-    }
-    if key == ENTITY {
-        return is_above(rows, ENTITY, line);
-    }
-    if key == LINK {
-        return is_link(rows, work, line);
-    }
-    if key == TERM {
-        return is_term(rows, line);
-    }
-    true
 }
 
-// The depth of a node's row; 0 where it refers to a line that is not there or its items do not ascend. It may repeat another.
-pub fn node_depth(rows: &[u32], work: &[u32], line: &[u32]) -> usize
-    ensures { result ≡ cond (found (held [] rows.now []) NODE line.now) (depth (held [] rows.now work.now) NODE line.now) 0 }
+// The depth of a node's row, if the lines that it refers to are there and its items ascend. It may repeat another.
+pub fn node_depth(rows: &[u32], work: &[u32], line: &[u32]) -> Option<usize>
+    ensures { result ≡ cond (found (held [] rows.now []) NODE line.now) (Some (depth (held [] rows.now work.now) NODE line.now)) None }
 {
-    let d = depth_of_node(rows, work, line);
-    if d == 0 {
-        return 0;
-    }
+    let depth = depth_of_node(rows, work, line)?;
     if !ascends(line) {
-        return 0;
+        return None;
     }
-    d
+    Some(depth)
 }
 
-// The depth of a row of a key, which is not that of a text; 0 where it refers to a line that is not there or is not new.
-pub fn new_depth(rows: &[u32], work: &[u32], key: usize, line: &[u32], new: bool) -> usize
+// The depth of a row of a key, which is not that of a text, if the lines that it refers to are there and it is new.
+pub fn new_depth(rows: &[u32], work: &[u32], key: usize, line: &[u32], new: bool) -> Option<usize>
     requires fact { (key ≡ TEXT → ⊥) × (key ≡ key_of line.now) × (key < no_key) }
     requires noted { Noted rows.now work.now × Unlike line.now (rows_of rows.now key) new }
-    ensures { result ≡ cond (found (held [] rows.now []) key line.now) (depth (held [] rows.now work.now) key line.now) 0 }
+    ensures { result ≡ cond (found (held [] rows.now []) key line.now) (Some (depth (held [] rows.now work.now) key line.now)) None }
 {
-    let d = depth_listed(rows, work, key, line);
-    if d == 0 {
-        return 0;
-    }
+    let depth = depth_listed(rows, work, key, line)?;
     if !ascends(line) {
-        return 0;
+        return None;
     }
     if !is_fresh(rows, work, key, line, new) {
-        return 0;
+        return None;
     }
-    d
+    Some(depth)
 }

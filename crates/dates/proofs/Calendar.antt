@@ -1,4 +1,5 @@
 -- Leap years, months, dates: what the tests of the code say. Assumes nothing.
+use Rattle.std.proofs.Common.{Some, None}
 use mathlib.Core.Path.{◌≡◌, refl, sym, ◌∙◌, ap}
 use mathlib.Core.Bool.{Bool, true, false, cond, ◌&&◌, ◌||◌, not}
 use mathlib.Core.Option.{Option, none, some, some-injective}
@@ -12,7 +13,6 @@ use lib.ListN.{length, get_or, take, drop, get_or-eq_default}
 use Rattle.cedar.proofs.Tools.{no_some, eqb_true, and_left, and_right}
 use Rattle.cedar.specs.Numbered.{mem_n}
 use Rattle.sheet.specs.Bytes.{leap_year, days_in, is_date, date_in, digits_from, at_most, half, date}
-use Rattle.scan.specs.declared.Number as N
 use Rattle.scan.specs.Numbers.{number_of}
 use Rattle.sheet.proofs.reading.Parsed.{all_below_law}
 use Rattle.forms.proofs.Tests.{NoneOf, none_of, other}
@@ -90,23 +90,23 @@ unfolding firsts
 eight_are s e = rw (firsts_are 10 s e) refl
 
 module _ (s : List ℕ) where
-  pub not_ten : (length s ≡ 10 → ⊥) → number_of N.TheVariants.Refused ≡ date s
+  pub not_ten : (length s ≡ 10 → ⊥) → number_of None ≡ date s
   not_ten h = sym (rw (ne_eqb (length s) 10 h) refl)
 
   module _ (ten : length s ≡ 10) where
-    pub no_dash : (get_or s 4 0 ≡ 45 → ⊥) → number_of N.TheVariants.Refused ≡ date s
+    pub no_dash : (get_or s 4 0 ≡ 45 → ⊥) → number_of None ≡ date s
     no_dash h = sym (rw (eq-eqb (length s) 10 ten, ne_eqb (get_or s 4 0) 45 h) refl)
 
     module _ (dash : get_or s 4 0 ≡ 45) where
-      pub no_second : (get_or s 7 0 ≡ 45 → ⊥) → number_of N.TheVariants.Refused ≡ date s
+      pub no_second : (get_or s 7 0 ≡ 45 → ⊥) → number_of None ≡ date s
       no_second h = sym (rw (eq-eqb (length s) 10 ten, eq-eqb (get_or s 4 0) 45 dash, ne_eqb (get_or s 7 0) 45 h) refl)
 
       module _ (second : get_or s 7 0 ≡ 45) where
         date_is : date s ≡ date_in (digits_from 0 (eight s))
         date_is = rw (eq-eqb (length s) 10 ten, eq-eqb (get_or s 4 0) 45 dash, eq-eqb (get_or s 7 0) 45 second) (ap (λ l. date_in (digits_from 0 l)) (eight_are s ten))
 
-        pub a_date : (r : N.Number) → number_of r ≡ at_most half (digits_from 0 (eight s)) → (n : ℕ) → r ≡ N.TheVariants.Value n → (b : Bool) → b ≡ is_date n → b ≡ true → number_of (N.TheVariants.Value n) ≡ date s
-        a_date r e n v b i t = sym (date_is ∙ go (digits_from 0 (eight s)) (sym (ap number_of v) ∙ e))
+        pub a_date : (n : ℕ) → some n ≡ at_most half (digits_from 0 (eight s)) → (b : Bool) → b ≡ is_date n → b ≡ true → number_of (Some n) ≡ date s
+        a_date n e b i t = sym (date_is ∙ go (digits_from 0 (eight s)) e)
           where
             go : (o : Option ℕ) → some n ≡ at_most half o → date_in o ≡ some n
             go none q = no_some (sym q)
@@ -116,8 +116,8 @@ module _ (s : List ℕ) where
                 keeps true q = ap (λ z. cond (is_date z) (some z) none) (sym (some-injective n m q)) ∙ ap (λ z. cond z (some n) none) (sym i ∙ t)
                 keeps false q = no_some (sym q)
 
-        pub no_date : (r : N.Number) → number_of r ≡ at_most half (digits_from 0 (eight s)) → (n : ℕ) (b : Bool) → b ≡ is_date n → b ≡ false → r ≡ N.TheVariants.Value n → number_of N.TheVariants.Refused ≡ date s
-        no_date r e n b i t v = sym (date_is ∙ go (digits_from 0 (eight s)) (sym (ap number_of v) ∙ e))
+        pub no_date : (n : ℕ) → some n ≡ at_most half (digits_from 0 (eight s)) → (b : Bool) → b ≡ is_date n → b ≡ false → number_of None ≡ date s
+        no_date n e b i t = sym (date_is ∙ go (digits_from 0 (eight s)) e)
           where
             go : (o : Option ℕ) → some n ≡ at_most half o → date_in o ≡ none
             go none q = refl
@@ -127,8 +127,8 @@ module _ (s : List ℕ) where
                 keeps true q = ap (λ z. cond (is_date z) (some z) none) (sym (some-injective n m q)) ∙ ap (λ z. cond z (some n) none) (sym i ∙ t)
                 keeps false q = no_some (sym q)
 
-        pub no_digits : (r : N.Number) → number_of r ≡ at_most half (digits_from 0 (eight s)) → r ≡ N.TheVariants.Refused → number_of N.TheVariants.Refused ≡ date s
-        no_digits r e v = sym (date_is ∙ go (digits_from 0 (eight s)) (sym (ap number_of v) ∙ e))
+        pub no_digits : none ≡ at_most half (digits_from 0 (eight s)) → number_of None ≡ date s
+        no_digits e = sym (date_is ∙ go (digits_from 0 (eight s)) e)
           where
             go : (o : Option ℕ) → none ≡ at_most half o → date_in o ≡ none
             go none q = refl

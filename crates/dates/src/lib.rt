@@ -5,7 +5,7 @@ ghost use Rattle.std.specs.Prelude.{◌≡◌};
 ghost use Rattle.sheet.specs.Bytes.{leap_year, days_in, is_date, date};
 ghost use Rattle.scan.specs.Numbers.{number_of};
 
-use scan::{Number, digits};
+use scan::digits;
 
 // The first and the last year.
 const FIRST_YEAR: u64 = 1900;
@@ -71,29 +71,24 @@ fn is_date(n: u64) -> bool
 }
 
 // A date: ten bytes, two of them dashes.
-pub fn date_of(bytes: &[u8]) -> Number
+pub fn date_of(bytes: &[u8]) -> Option<u64>
     ensures { number_of result ≡ date bytes.now }
 {
     if bytes.len() != 10 {
-        return Number::Refused;
+        return None;
     }
     if bytes[4] != b'-' {
-        return Number::Refused;
+        return None;
     }
     if bytes[7] != b'-' {
-        return Number::Refused;
+        return None;
     }
     let d = [
         bytes[0], bytes[1], bytes[2], bytes[3], bytes[5], bytes[6], bytes[8], bytes[9],
     ];
-    let r = digits(&d);
-    match r {
-        Number::Value(n) => {
-            if is_date(n) {
-                return Number::Value(n);
-            }
-            Number::Refused
-        }
-        Number::Refused => Number::Refused,
+    let n = digits(&d)?;
+    if is_date(n) {
+        return Some(n);
     }
+    None
 }

@@ -1,5 +1,5 @@
 -- Depths of lines, as the code finds them. Assumes nothing.
-use mathlib.Core.Path.{◌≡◌, refl, sym, ap, ap₂, subst, ◌∙◌}
+use mathlib.Core.Path.{◌≡◌, refl, sym, ap, subst, ◌∙◌}
 use mathlib.Core.Bool.{Bool, true, false, cond, not, ◌||◌}
 use mathlib.Core.List.{List, [], ◌∷◌}
 use Prim.Native.Nat.{ℕ, suc, ◌+◌, ◌%◌, ◌≤◌, ◌<◌, max}
@@ -8,7 +8,7 @@ use native.Mathlib.Omega.{arith}
 use native.Mathlib.Decide.{ℕ_discrete, dec_lt}
 use borrow.Author.Tests.{eqb-true, eq-eqb, ne_eqb, ltb-true}
 use lib.Dec.{ltb, eqb}
-use lib.ListN.{length, get_or, drop, length-take, length-replicate, get_or-replicate, get_or-eq_default}
+use lib.ListN.{length, get_or, drop, length-take, length-drop, length-replicate, get_or-replicate, get_or-eq_default}
 use lib.Seq.{get_or-take, get_or-drop}
 use Rattle.sheet.specs.Forms.{Slot, entry, line, line_or, line_unknown, word, number, day, nothing, slot_at, tag, items, is_line, keep, refs_from, refs, no_key, TEXT, TYPE, VALUE, NODE, POLICY}
 use Rattle.sheet.specs.State.{State, depths_of}
@@ -20,10 +20,13 @@ use Rattle.sheet.proofs.reading.Parsed.{all_below, all_below_law}
 use Rattle.forms.proofs.Tests.{other}
 use Rattle.forms.specs.Rows.{NONE, NUMBER, ENTRY, DATE, LINE, UNKNOWN, OF_TYPE, OF_VALUE, OF_NODE, code as code_of}
 use Rattle.forms.specs.Tags.{LIT, AND, IF, GET, HASPATH}
-use Rattle.depths.specs.Codes.{key_in, form_code, again_code, codes_after, codes_at}
+use Rattle.std.specs.Prelude.{Some, None}
+use Rattle.std.specs.Ordering.{nat_cmp, ord_max}
+use Rattle.depths.specs.declared.Places.{Places}
+use Rattle.depths.specs.Codes.{key_in, places_at, place_code, places_after}
 use Rattle.depths.specs.Depths.{ThereAs, there_depth, OnOne, OnTwo, OnNone}
-use Rattle.depths.proofs.FormTable.{code_at, node_type, node_first, node_second, node_text, leaf_value, leaf_other}
-use Rattle.depths.proofs.ThereLaws.{item_at, items_end, There, there_start, there_off, there_on, there_end, ref_none, ref_in, ref_out, mark_high, words_low}
+use Rattle.depths.proofs.FormTable.{place_here, place_next, node_type, node_first, node_second, node_text, leaf_value, leaf_other}
+use Rattle.depths.proofs.ThereLaws.{item_at, item_in, items_end, There, there_start, there_off, there_on, there_end, ref_none, ref_in, ref_out, mark_high, words_low}
 
 -- ---- the depth of one line
 
@@ -134,50 +137,53 @@ from_line a b k c x d e h = h ∙ sym (rw (eq-eqb c (LINE + k) e) refl)
 
 -- ---- all of a row's items
 
-pub record Walk (a b : List ℕ) (k : ℕ) (r : List ℕ) (w d j : ℕ) : Type 0 where
+larger : (x y : ℕ) → ord_max nat_cmp x y ≡ max x y
+larger x y = grind arith
+
+pub record Walk (a b : List ℕ) (k : ℕ) (r : List ℕ) (p : Places) (d j : ℕ) : Type 0 where
   pub there : There a r j
   pub deep : Deep a b k r j d
-  pub codes : w ≡ codes_at (tag r) j
-  pub small : w < 4294967296
+  pub places : p ≡ places_at (tag r) j
 
-pub walk_start : (a b : List ℕ) (k : ℕ) (r : List ℕ) (t w : ℕ) → t ≡ tag r → w ≡ form_code t → w < 4294967296 → Walk a b k r w 0 0
-unfolding codes_at
-walk_start a b k r t w ht hw small = record { small = small; there = there_start a r; deep = deep_start a b k r; codes = hw ∙ ap form_code ht }
+pub walk_start : (a b : List ℕ) (k : ℕ) (r : List ℕ) (t : ℕ) (p : Places) → t ≡ tag r → p ≡ places_at t 0 → Walk a b k r p 0 0
+walk_start a b k r t p ht hp = record { there = there_start a r; deep = deep_start a b k r; places = hp ∙ ap (λ (x : ℕ). places_at x 0) ht }
 
-there_depth_law : (a b : List ℕ) (k : ℕ) (r : List ℕ) (d : ℕ) → true ≡ all_there (held [] a []) (tag r) 0 (items r) → d ≡ depth (held [] a b) k r → d ≡ there_depth a b k r
+there_depth_law : (a b : List ℕ) (k : ℕ) (r : List ℕ) (d : ℕ) → true ≡ all_there (held [] a []) (tag r) 0 (items r) → d ≡ depth (held [] a b) k r → Some d ≡ there_depth a b k r
 unfolding there_depth
-there_depth_law a b k r d e h = h ∙ rw (← e) refl
+there_depth_law a b k r d e h = ap (λ (x : ℕ). Some x) h ∙ rw (← e) refl
 
-absent_depth : (a b : List ℕ) (k : ℕ) (r : List ℕ) → false ≡ all_there (held [] a []) (tag r) 0 (items r) → 0 ≡ there_depth a b k r
+absent_depth : (a b : List ℕ) (k : ℕ) (r : List ℕ) → false ≡ all_there (held [] a []) (tag r) 0 (items r) → None ≡ there_depth a b k r
 unfolding there_depth
 absent_depth a b k r e = rw (← e) refl
 
-module _ (a b : List ℕ) (k : ℕ) (r : List ℕ) (w d j : ℕ) (i : Walk a b k r w d j) (low : k < no_key) where
-  module _ (t x c : ℕ) (v : Bool) (ht : t ≡ tag r) (h : j + 1 < length r) (hc : c ≡ w % 256) (hx : x ≡ get_or r (j + 1) 0) (hv : ThereAs a c x v) where
-    code_here : (c ≡ code_of (slot_at t j)) × (key_in (slot_at t j) ≤ POLICY)
-    code_here = code_at t j w c (i.codes ∙ ap (λ (y : ℕ). codes_at y j) (sym ht)) hc
+module _ (a b : List ℕ) (k : ℕ) (r : List ℕ) (p : Places) (d j : ℕ) (i : Walk a b k r p d j) (low : k < no_key) where
+  module _ (x c : ℕ) (v : Bool) (h : j < length (items r)) (hc : c ≡ place_code p) (hx : x ≡ get_or (items r) j 0) (hv : ThereAs a c x v) where
+    code_here : (c ≡ code_of (slot_at (tag r) j)) × (key_in (slot_at (tag r) j) ≤ POLICY)
+    code_here = place_here (tag r) j p c i.places hc
 
-    pub walk_off : not v ≡ true → 0 ≡ there_depth a b k r
-    walk_off n = absent_depth a b k r (there_off a r j i.there t x v ht h hx (hv.is (slot_at t j) code_here) n)
+    item_here : (j + 1 < length r) × (x ≡ get_or r (j + 1) 0)
+    item_here = item_in r j x h hx
 
-    pub walk_on : not v ≡ false → (y d' again w' : ℕ) → y ≡ cond (eqb c (LINE + k)) (get_or (depths_in a b k) x 0) 0 → d' ≡ max d y → y < 4294967296 → again ≡ again_code t → w' ≡ codes_after again w → w' < 4294967296
-        → Walk a b k r w' d' (j + 1)
-    unfolding codes_at
-    walk_on n y d' again w' hy hd small ha hw low' =
+    pub walk_off : not v ≡ true → None ≡ there_depth a b k r
+    walk_off n = absent_depth a b k r (there_off a r j i.there (tag r) x v refl item_here.0 item_here.1 (hv.is (slot_at (tag r) j) code_here) n)
+
+    pub walk_on : not v ≡ false → (y d' : ℕ) (q : Places) → y ≡ cond (eqb c (LINE + k)) (get_or (depths_in a b k) x 0) 0 → d' ≡ ord_max nat_cmp d y → y < 4294967296 → q ≡ places_after p → Walk a b k r q d' (j + 1)
+    walk_on n y d' q hy hd small hq =
         record {
-          small = low';
-          there = there_on a r j i.there t x v ht h hx (hv.is (slot_at t j) code_here) n;
-          deep = deep_on a b k r j d i.deep low t x c y d' ht h hx code_here hy hd small;
-          codes = hw ∙ ap₂ codes_after (ha ∙ ap again_code ht) i.codes ∙ ap (codes_at (tag r)) (sym (add-one j));
+          there = there_on a r j i.there (tag r) x v refl item_here.0 item_here.1 (hv.is (slot_at (tag r) j) code_here) n;
+          deep = deep_on a b k r j d i.deep low (tag r) x c y d' refl item_here.0 item_here.1 code_here hy (hd ∙ larger d y) small;
+          places = place_next (tag r) j p q i.places hq;
         }
 
-  pub walk_end : length r ≤ j + 1 → d + 1 ≡ there_depth a b k r
-  walk_end h = there_depth_law a b k r (d + 1) (there_end a r j i.there h) (deep_end a b k r j d i.deep low h)
+  pub walk_end : length (items r) ≤ j → Some (d + 1) ≡ there_depth a b k r
+  walk_end h =
+      let l : length r ≤ j + 1 = omega (arith, length-drop 1 r) in
+      there_depth_law a b k r (d + 1) (there_end a r j i.there l) (deep_end a b k r j d i.deep low l)
 
 -- ---- a node's type
 
 module _ (a b r : List ℕ) (long : 1 < length r) (code : (OF_TYPE ≡ code_of (slot_at (tag r) 0)) × (key_in (slot_at (tag r) 0) ≤ POLICY)) (x m : ℕ) (hx : x ≡ get_or r 1 0) (hm : m ≡ get_or a TYPE 0) where
-  type_absent : m ≤ x → 0 ≡ there_depth a b NODE r
+  type_absent : m ≤ x → None ≡ there_depth a b NODE r
   type_absent l = absent_depth a b NODE r (there_off a r 0 (there_start a r) (tag r) x false refl long hx ((ref_out a OF_TYPE x m (omega arith) hm l (omega arith)).is (slot_at (tag r) 0) code) refl)
 
   type_there : x < m → There a r 1
@@ -192,7 +198,7 @@ module _ (a r : List ℕ) (leaf : OnNone r) (x m : ℕ) (hx : x ≡ get_or r 1 0
   leaf_type : (OF_TYPE ≡ code_of (slot_at (tag r) 0)) × (key_in (slot_at (tag r) 0) ≤ POLICY)
   leaf_type = node_type (tag r) 0 (leaf.low, omega (arith, leaf.high)) refl
 
-  pub leaf_untyped : m ≤ x → (b : List ℕ) → 0 ≡ there_depth a b NODE r
+  pub leaf_untyped : m ≤ x → (b : List ℕ) → None ≡ there_depth a b NODE r
   leaf_untyped l b = type_absent a b r (omega (arith, leaf.long)) leaf_type x m hx hm l
 
   module _ (lx : x < m) (t : ℕ) (ht : t ≡ tag r) where
@@ -200,13 +206,13 @@ module _ (a r : List ℕ) (leaf : OnNone r) (x m : ℕ) (hx : x ≡ get_or r 1 0
     there₁ = type_there a [] r (omega (arith, leaf.long)) leaf_type x m hx hm lx
 
     -- the second item is there, and no node
-    leaf_end : (c : ℕ) → (c ≡ code_of (slot_at (tag r) 1)) × (key_in (slot_at (tag r) 1) ≤ POLICY) → eqb c OF_NODE ≡ false → ThereAs a c (get_or r 2 0) true → (b : List ℕ) → 1 ≡ there_depth a b NODE r
+    leaf_end : (c : ℕ) → (c ≡ code_of (slot_at (tag r) 1)) × (key_in (slot_at (tag r) 1) ≤ POLICY) → eqb c OF_NODE ≡ false → ThereAs a c (get_or r 2 0) true → (b : List ℕ) → Some 1 ≡ there_depth a b NODE r
     leaf_end c hc e v b =
         let deep₂ : Deep a b NODE r 2 0 = deep_on a b NODE r 1 0 (type_deep a b r (omega (arith, leaf.long)) leaf_type x m hx hm) (omega arith) (tag r) (get_or r 2 0) c 0 0 refl (omega (arith, leaf.long)) refl hc (sym (rw e refl)) (omega arith) (omega arith) in
         let there₂ : There a r 2 = there_on a r 1 there₁ (tag r) (get_or r 2 0) true refl (omega (arith, leaf.long)) refl (v.is (slot_at (tag r) 1) hc) refl in
         there_depth_law a b NODE r 1 (there_end a r 2 there₂ (omega (arith, leaf.long))) (deep_end a b NODE r 2 0 deep₂ (omega arith) (omega (arith, leaf.long)))
 
-    pub leaf_whole : (t ≡ LIT → ⊥) → (b : List ℕ) → 1 ≡ there_depth a b NODE r
+    pub leaf_whole : (t ≡ LIT → ⊥) → (b : List ℕ) → Some 1 ≡ there_depth a b NODE r
     leaf_whole n =
         let o = leaf_other (tag r) 1 (omega (arith, leaf.low, ht)) leaf.high in
         let c = code_of (slot_at (tag r) 1) in
@@ -216,10 +222,10 @@ module _ (a r : List ℕ) (leaf : OnNone r) (x m : ℕ) (hx : x ≡ get_or r 1 0
       value_code : (OF_VALUE ≡ code_of (slot_at (tag r) 1)) × (key_in (slot_at (tag r) 1) ≤ POLICY)
       value_code = leaf_value (tag r) 1 (sym ht ∙ e) refl
 
-      pub value_absent : n ≤ y → (b : List ℕ) → 0 ≡ there_depth a b NODE r
+      pub value_absent : n ≤ y → (b : List ℕ) → None ≡ there_depth a b NODE r
       value_absent l b = absent_depth a b NODE r (there_off a r 1 there₁ (tag r) y false refl (omega (arith, leaf.long)) hy ((ref_out a OF_VALUE y n (omega arith) hn l (omega arith)).is (slot_at (tag r) 1) value_code) refl)
 
-      pub value_there : y < n → (b : List ℕ) → 1 ≡ there_depth a b NODE r
+      pub value_there : y < n → (b : List ℕ) → Some 1 ≡ there_depth a b NODE r
       value_there l = leaf_end OF_VALUE value_code refl (rw (← hy) (ref_in a OF_VALUE y n (omega arith) hn l))
 
 pub leaf_row : (r : List ℕ) (t : ℕ) → length r ≡ 3 → t ≡ tag r → LIT ≤ t → ltb t AND ≡ true → OnNone r
@@ -229,7 +235,7 @@ leaf_row r t l h low high = record { long = l; low = omega arith; high = omega (
 
 module _ (a b r : List ℕ) (long : length r ≡ 4) (at-type : (OF_TYPE ≡ code_of (slot_at (tag r) 0)) × (key_in (slot_at (tag r) 0) ≤ POLICY)) (at_first : (OF_NODE ≡ code_of (slot_at (tag r) 1)) × (key_in (slot_at (tag r) 1) ≤ POLICY))
     (c : ℕ) (at_last : (c ≡ code_of (slot_at (tag r) 2)) × (key_in (slot_at (tag r) 2) ≤ POLICY)) (low : LINE ≤ c) (high : c < UNKNOWN) (x m : ℕ) (hx : x ≡ get_or r 1 0) (hm : m ≡ get_or a TYPE 0) where
-  untyped : m ≤ x → 0 ≡ there_depth a b NODE r
+  untyped : m ≤ x → None ≡ there_depth a b NODE r
   untyped = type_absent a b r (omega arith) at-type x m hx hm
 
   module _ (lx : x < m) (y n : ℕ) (hy : y ≡ get_or r 2 0) (hn : n ≡ get_or a NODE 0) where
@@ -239,17 +245,17 @@ module _ (a b r : List ℕ) (long : length r ≡ 4) (at-type : (OF_TYPE ≡ code
     shallow₁ : Deep a b NODE r 1 0
     shallow₁ = type_deep a b r (omega arith) at-type x m hx hm
 
-    first_absent : n ≤ y → 0 ≡ there_depth a b NODE r
+    first_absent : n ≤ y → None ≡ there_depth a b NODE r
     first_absent l = absent_depth a b NODE r (there_off a r 1 typed₁ (tag r) y false refl (omega arith) hy ((ref_out a OF_NODE y n (omega arith) hn l (omega arith)).is (slot_at (tag r) 1) at_first) refl)
 
     module _ (ly : y < n) (z k : ℕ) (hz : z ≡ get_or r 3 0) (hk : k ≡ get_or a (c % LINE) 0) where
       first₂ : There a r 2
       first₂ = there_on a r 1 typed₁ (tag r) y true refl (omega arith) hy ((ref_in a OF_NODE y n (omega arith) hn ly).is (slot_at (tag r) 1) at_first) refl
 
-      last_absent : k ≤ z → 0 ≡ there_depth a b NODE r
+      last_absent : k ≤ z → None ≡ there_depth a b NODE r
       last_absent l = absent_depth a b NODE r (there_off a r 2 first₂ (tag r) z false refl (omega arith) hz ((ref_out a c z k low hk l high).is (slot_at (tag r) 2) at_last) refl)
 
-      both_there : z < k → (d e m' : ℕ) → d ≡ get_or b (NODEDEPTHS + y) 0 → e ≡ cond (eqb c OF_NODE) (get_or (depths_in a b NODE) z 0) 0 → m' ≡ max d e → d < 4294967296 → e < 4294967296 → m' + 1 ≡ there_depth a b NODE r
+      both_there : z < k → (d e m' : ℕ) → d ≡ get_or b (NODEDEPTHS + y) 0 → e ≡ cond (eqb c OF_NODE) (get_or (depths_in a b NODE) z 0) 0 → m' ≡ max d e → d < 4294967296 → e < 4294967296 → Some (m' + 1) ≡ there_depth a b NODE r
       both_there lz d e m' hd he hm' sd se =
           let u : d ≡ get_or (depths_in a b NODE) y 0 = depth_node a b NODE y n d hn ly refl hd in
           let deep₂ : Deep a b NODE r 2 d = deep_on a b NODE r 1 0 shallow₁ (omega arith) (tag r) y OF_NODE d d refl (omega arith) hy at_first u (omega arith) sd in
@@ -270,18 +276,18 @@ module _ (a b r : List ℕ) (one : OnOne r) where
   one_text = node_text (tag r) 2 one.low one.high refl
 
   module _ (x m : ℕ) (hx : x ≡ get_or r 1 0) (hm : m ≡ get_or a TYPE 0) where
-    pub one_untyped : m ≤ x → 0 ≡ there_depth a b NODE r
+    pub one_untyped : m ≤ x → None ≡ there_depth a b NODE r
     one_untyped = untyped a b r one.long one_type one_node (LINE + TEXT) one_text (omega arith) (omega arith) x m hx hm
 
     module _ (lx : x < m) (y n : ℕ) (hy : y ≡ get_or r 2 0) (hn : n ≡ get_or a NODE 0) where
-      pub one_first : n ≤ y → 0 ≡ there_depth a b NODE r
+      pub one_first : n ≤ y → None ≡ there_depth a b NODE r
       one_first = first_absent a b r one.long one_type one_node (LINE + TEXT) one_text (omega arith) (omega arith) x m hx hm lx y n hy hn
 
       module _ (ly : y < n) (z k : ℕ) (hz : z ≡ get_or r 3 0) (hk : k ≡ get_or a TEXT 0) where
-        pub one_absent : k ≤ z → 0 ≡ there_depth a b NODE r
+        pub one_absent : k ≤ z → None ≡ there_depth a b NODE r
         one_absent = last_absent a b r one.long one_type one_node (LINE + TEXT) one_text (omega arith) (omega arith) x m hx hm lx y n hy hn ly z k hz hk
 
-        pub one_deep : z < k → (d : ℕ) → d ≡ get_or b (NODEDEPTHS + y) 0 → d < 4294967296 → d + 1 ≡ there_depth a b NODE r
+        pub one_deep : z < k → (d : ℕ) → d ≡ get_or b (NODEDEPTHS + y) 0 → d < 4294967296 → Some (d + 1) ≡ there_depth a b NODE r
         one_deep lz d hd sd = both_there a b r one.long one_type one_node (LINE + TEXT) one_text (omega arith) (omega arith) x m hx hm lx y n hy hn ly z k hz hk lz d 0 d hd refl (omega arith) sd (omega arith)
 
 pub one_row : (r : List ℕ) (t : ℕ) → length r ≡ 4 → t ≡ tag r → GET ≤ t → ltb t HASPATH ≡ true → OnOne r
@@ -300,18 +306,18 @@ module _ (a b r : List ℕ) (two : OnTwo r) where
   on_second = node_second (tag r) 2 two.low (omega (arith, two.high)) refl
 
   module _ (x m : ℕ) (hx : x ≡ get_or r 1 0) (hm : m ≡ get_or a TYPE 0) where
-    pub two_untyped : m ≤ x → 0 ≡ there_depth a b NODE r
+    pub two_untyped : m ≤ x → None ≡ there_depth a b NODE r
     two_untyped = untyped a b r two.long on_type on_first OF_NODE on_second (omega arith) (omega arith) x m hx hm
 
     module _ (lx : x < m) (y n : ℕ) (hy : y ≡ get_or r 2 0) (hn : n ≡ get_or a NODE 0) where
-      pub two_first : n ≤ y → 0 ≡ there_depth a b NODE r
+      pub two_first : n ≤ y → None ≡ there_depth a b NODE r
       two_first = first_absent a b r two.long on_type on_first OF_NODE on_second (omega arith) (omega arith) x m hx hm lx y n hy hn
 
       module _ (ly : y < n) (z : ℕ) (hz : z ≡ get_or r 3 0) where
-        pub two_second : n ≤ z → 0 ≡ there_depth a b NODE r
+        pub two_second : n ≤ z → None ≡ there_depth a b NODE r
         two_second = last_absent a b r two.long on_type on_first OF_NODE on_second (omega arith) (omega arith) x m hx hm lx y n hy hn ly z n hz hn
 
-        pub two_deep : z < n → (d e m' : ℕ) → d ≡ get_or b (NODEDEPTHS + y) 0 → e ≡ get_or b (NODEDEPTHS + z) 0 → m' ≡ max d e → d < 4294967296 → e < 4294967296 → m' + 1 ≡ there_depth a b NODE r
+        pub two_deep : z < n → (d e m' : ℕ) → d ≡ get_or b (NODEDEPTHS + y) 0 → e ≡ get_or b (NODEDEPTHS + z) 0 → m' ≡ max d e → d < 4294967296 → e < 4294967296 → Some (m' + 1) ≡ there_depth a b NODE r
         two_deep lz d e m' hd he =
             both_there a b r two.long on_type on_first OF_NODE on_second (omega arith) (omega arith) x m hx hm lx y n hy hn ly z n hz hn lz d e m' hd (depth_node a b NODE z n e hn lz refl he)
 

@@ -3,6 +3,7 @@ use mathlib.Core.Path.{◌≡◌, refl, sym, ap, ◌∙◌}
 use mathlib.Core.Bool.{Bool, true, false, not, ◌&&◌, and-eq-true_iff}
 use mathlib.Core.List.{List, [], ◌∷◌}
 use Prim.Native.Nat.{ℕ, zero, suc, ◌+◌, ◌-◌, ◌*◌, ◌/◌, ◌%◌, ◌^◌, ◌≤◌, ◌<◌}
+use native.Mathlib.Numerals.{add-one}
 use native.Mathlib.Omega.{arith}
 use native.Mathlib.Decide.{dec_lt}
 use borrow.Author.Tests.{leb-true, eqb-true, eq-eqb, ne_eqb, le-ltb, not-true}
@@ -15,9 +16,13 @@ use Rattle.forms.specs.Rows.{LINE, EFFECT, OF_TYPE, OF_VALUE, OF_NODE, code as c
 use Rattle.forms.specs.Tags.{LIT, ERR, AND, IS, GET, HASPATH, SET_OF, RECORD_OF, POLICY_LINE}
 use Rattle.forms.proofs.Tests.{ranged}
 use Rattle.forms.proofs.Table.{no_form_law, group_small, both_small, node_slot}
-use Rattle.depths.specs.Codes.{key_in, packed, packed_from, form_code, again_code, codes_after, codes_at}
+use Rattle.depths.specs.declared.Places.{Places}
+use Rattle.depths.specs.Codes.{key_in, packed, packed_from, form_code, again_code, codes_after, codes_at, places_at, place_code, places_after}
 
 -- ---- what items refer to, four to a word
+
+places_same : (p q : Places) → p.slots ≡ q.slots → p.group ≡ q.group → p ≡ q
+places_same p q s g i = record { slots = s i; group = g i }
 
 word_packed : (r : F.Form) (w : ℕ) → Packed r w → w < 4294967296 → w ≡ packed r
 word_packed r w p h =
@@ -27,18 +32,12 @@ word_packed r w p h =
     let g : w / 256 ≡ r.second + 256 * (r.third + 256 * r.fourth) = omega (arith, a, d, p.two) in
     omega (arith, g, p.one)
 
-module _ (t : ℕ) (r : F.Form) (e : r ≡ coded (form_of t)) where
-  pub codes_are : (w : ℕ) → Packed r w → w < 4294967296 → w ≡ form_code t
-  unfolding form_code
-  codes_are w p h = word_packed r w p h ∙ ap packed e
-
-  pub again_are : (again : ℕ) → again ≡ packed_from r.items (packed r) → again ≡ again_code t
-  unfolding again_code form_code
-  again_are again h = h ∙ ap (λ (f : F.Form). packed_from f.items (packed f)) e
-
--- the places of the group alone
-pub again_of_packed : (r : F.Form) (w : ℕ) → Packed r w → w < 4294967296 → w / 2 ^ (r.items % 8 * 8) ≡ packed_from r.items (packed r)
-again_of_packed r w p h = ap (packed_from r.items) (word_packed r w p h)
+-- all places of a form
+pub places_first : (t : ℕ) (r : F.Form) (w : ℕ) (p : Places) → r ≡ coded (form_of t) → Packed r w → w < 4294967296 → p.slots ≡ w → p.group ≡ w / 2 ^ (r.items % 8 * 8) → p ≡ places_at t 0
+unfolding codes_at form_code again_code
+places_first t r w p e h l hs hg =
+    let q = word_packed r w h l in
+    places_same p (places_at t 0) (hs ∙ q ∙ ap packed e) (hg ∙ ap (packed_from r.items) q ∙ ap (λ (f : F.Form). packed_from f.items (packed f)) e)
 
 -- past the table's end
 codes_out : (t : ℕ) → no_tag ≤ t → 0 ≡ form_code t
@@ -49,11 +48,11 @@ again_out : (t : ℕ) → no_tag ≤ t → 0 ≡ again_code t
 unfolding again_code form_code coded code_of
 again_out t h = sym (ap (λ (f : Form). packed_from (coded f).items (packed (coded f))) (no_form_law t h))
 
-pub after_rest : (w again v : ℕ) → v ≡ w / 256 → (v ≡ 0 → ⊥) → v ≡ codes_after again w
-after_rest w again v e n = sym (rw (← e, ne_eqb v 0 n) refl)
+pub after_rest : (p q : Places) (v : ℕ) → v ≡ p.slots / 256 → (v ≡ 0 → ⊥) → q.slots ≡ v → q.group ≡ p.group → q ≡ places_after p
+after_rest p q v e n hs hg = places_same q (places_after p) (hs ∙ sym (rw (← e, ne_eqb v 0 n) refl)) hg
 
-pub after_group : (w again v : ℕ) → v ≡ w / 256 → v ≡ 0 → again ≡ codes_after again w
-after_group w again v e z = sym (rw (← e, eq-eqb v 0 z) refl)
+pub after_group : (p q : Places) (v : ℕ) → v ≡ p.slots / 256 → v ≡ 0 → q.slots ≡ p.group → q.group ≡ p.group → q ≡ places_after p
+after_group p q v e z hs hg = places_same q (places_after p) (hs ∙ sym (rw (← e, eq-eqb v 0 z) refl)) hg
 
 -- ---- each place stands for one of the first ten: groups have one, two or three items
 
@@ -157,6 +156,14 @@ code_at t j w c hw hc = go (dec_lt t no_tag)
         let q : c ≡ code_of (slot_at t j) = hc ∙ ap (λ (x : ℕ). x % 256) z ∙ sym (ap code_of s) in
         let m : key_in (slot_at t j) ≡ 0 = ap key_in s in
         (q, omega (arith, m))
+
+-- the first of the places from j on, and those after it
+pub place_here : (t j : ℕ) (p : Places) (c : ℕ) → p ≡ places_at t j → c ≡ place_code p → (c ≡ code_of (slot_at t j)) × (key_in (slot_at t j) ≤ POLICY)
+place_here t j p c hp hc = code_at t j p.slots c (ap (λ (q : Places). q.slots) hp) hc
+
+pub place_next : (t j : ℕ) (p q : Places) → p ≡ places_at t j → q ≡ places_after p → q ≡ places_at t (j + 1)
+unfolding codes_at
+place_next t j p q hp hq = hq ∙ ap places_after hp ∙ ap (places_at t) (sym (add-one j))
 
 -- the forms before those that work on nodes refer to none, nor do those after a policy's
 is_other : ℕ → Slot → Bool

@@ -10,8 +10,8 @@ use native.Mathlib.Numerals.{add-one}
 use native.Mathlib.Omega.{arith}
 use borrow.Author.Tests.{lt-ltb, le-ltb, not-true, not-false}
 use lib.Dec.{eqb}
-use lib.ListN.{length, get_or, drop, drop_of_length-le}
-use lib.Seq.{drop-cons}
+use lib.ListN.{length, get_or, drop, length-drop, drop_of_length-le}
+use lib.Seq.{drop-cons, get_or-drop}
 use Rattle.sheet.specs.Bytes.{same}
 use Rattle.sheet.specs.Forms.{Slot, entry, line, line_or, line_unknown, word, number, day, nothing, dash, slot_at, tag, items, mark, POLICY}
 use Rattle.sheet.specs.State.{count}
@@ -143,6 +143,10 @@ pub item_at : (r : List ℕ) (j x : ℕ) → j + 1 < length r → x ≡ get_or r
 item_at r j x h e =
     let p : j + 1 ≡ suc j = omega arith in
     drop-cons r (suc j) 0 (omega arith) ∙ ap (λ (y : ℕ). y ∷ drop (suc (suc j)) r) (sym (e ∙ ap (λ (i : ℕ). get_or r i 0) p))
+
+-- the same among its items
+pub item_in : (r : List ℕ) (j x : ℕ) → j < length (items r) → x ≡ get_or (items r) j 0 → (j + 1 < length r) × (x ≡ get_or r (j + 1) 0)
+item_in r j x h e = let q : 1 + j ≡ j + 1 = omega arith in (omega (arith, length-drop 1 r), e ∙ get_or-drop 1 r j 0 ∙ ap (λ (i : ℕ). get_or r i 0) q)
 
 pub items_end : (r : List ℕ) (j : ℕ) → length r ≤ j + 1 → drop (suc j) r ≡ []
 items_end r j h = drop_of_length-le r {i = suc j} (omega arith)

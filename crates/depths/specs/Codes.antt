@@ -2,6 +2,7 @@
 use Rattle.std.specs.Prelude.{cond, ℕ, zero, suc, ◌+◌, ◌*◌, ◌/◌, ◌%◌, ◌^◌, eqb}
 use Rattle.sheet.specs.Forms.{Slot, entry, line, line_or, line_unknown, word, number, day, nothing, form_of}
 use Rattle.forms.specs.declared.Form as F
+use Rattle.depths.specs.declared.Places.{Places}
 use Rattle.forms.specs.Rows.{coded}
 
 -- the key that an item refers to
@@ -39,3 +40,13 @@ codes_after again w = cond (eqb (w / 256) 0) again (w / 256)
 unfoldable pub codes_at : ℕ → ℕ → ℕ
 codes_at t zero = form_code t
 codes_at t (suc j) = codes_after (again_code t) (codes_at t j)
+
+-- the places of a line of form t from j on, what may stand at the first of them, and those after it
+abbrev pub places_at : ℕ → ℕ → Places
+places_at t j = record { slots = codes_at t j; group = again_code t }
+
+abbrev pub place_code : Places → ℕ
+place_code p = p.slots % 256
+
+abbrev pub places_after : Places → Places
+places_after p = record { slots = codes_after p.group p.slots; group = p.group }

@@ -1,5 +1,5 @@
 -- What the walk over a row's items finds.
-use Rattle.std.specs.Prelude.{◌≡◌, Bool, cond, List, [], ℕ, ◌≤◌, ◌<◌, length}
+use Rattle.std.specs.Prelude.{◌≡◌, Bool, cond, List, [], ℕ, ◌≤◌, ◌<◌, length, Option, Some, None}
 use Rattle.sheet.specs.Forms.{Slot, tag, items, POLICY}
 use Rattle.sheet.specs.Sheet.{there_is, all_there, depth}
 use Rattle.table.specs.Layout.{held}
@@ -11,9 +11,9 @@ use Rattle.depths.specs.Codes.{key_in}
 pub record ThereAs (a : List ℕ) (c x : ℕ) (v : Bool) : Type 0 where
   pub is : (s : Slot) → (c ≡ code s) × (key_in s ≤ POLICY) → v ≡ there_is (held [] a []) s x
 
--- the depth of a row of key k; 0 where it refers to a line that is not there
-unfoldable pub there_depth : List ℕ → List ℕ → ℕ → List ℕ → ℕ
-there_depth a b k r = cond (all_there (held [] a []) (tag r) 0 (items r)) (depth (held [] a b) k r) 0
+-- the depth of a row of key k, if the lines that it refers to are there
+unfoldable pub there_depth : List ℕ → List ℕ → ℕ → List ℕ → Option ℕ
+there_depth a b k r = cond (all_there (held [] a []) (tag r) 0 (items r)) (Some (depth (held [] a b) k r)) None
 
 -- a row of a node that has a type and works on two nodes
 pub record OnTwo (r : List ℕ) : Type 0 where

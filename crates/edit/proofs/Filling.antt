@@ -1,25 +1,21 @@
 -- One line for another, by the tests of the code. Assumes nothing.
+use Rattle.std.proofs.Common.{nat_eq}
+use Rattle.std.specs.List.{list_any}
 use mathlib.Core.Path.{◌≡◌, refl, sym, ap, ap₂, ◌∙◌}
-use mathlib.Core.Bool.{Bool, true, false, cond, ◌&&◌, ◌||◌, not}
-use mathlib.Core.Option.{none, some}
+use mathlib.Core.Bool.{Bool, true, false, ◌&&◌, ◌||◌, not}
 use mathlib.Core.List.{List, [], ◌∷◌}
 use Prim.Native.Nat.{ℕ, suc, ◌+◌, ◌≤◌, ◌<◌}
-use Prim.Native.String.{String}
 use native.Mathlib.Omega.{arith}
 use native.Mathlib.Decide.{dec_le}
-use borrow.Author.Tests.{lt-ltb, le-ltb, le-leb, lt-leb, not-true, not-false, eq-eqb, ne_eqb, eqb-true, eqb-false}
-use lib.Dec.{ltb, leb, eqb, leb-suc-suc}
-use lib.ListN.{length, take, drop, drop_of_length-le}
+use borrow.Author.Tests.{le-leb, lt-leb, not-true, not-false, eq-eqb, ne_eqb, eqb-true, eqb-false}
+use lib.Dec.{leb, eqb}
+use lib.ListN.{length, take, drop}
 use Rattle.words.specs.Log.{part}
 use Rattle.cedar.specs.Types.{among}
 use Rattle.sheet.specs.Ascii.{ascii}
 use Rattle.sheet.specs.Bytes.{up_to, split, same}
-use Rattle.sheet.specs.Forms.{place_in, word_number}
-use Rattle.scan.specs.declared.Number as N
-use Rattle.scan.specs.Numbers.{number_of, placed}
 use Rattle.scan.specs.Places.{parts_from}
 use Rattle.scan.proofs.Splits.{split_parts, split_at, from_on, from_end}
-use Rattle.scan.proofs.Wordlists.{words_are}
 use Rattle.previewed.specs.Preview.{key_in, items_in, may_fill, fills_only, fills}
 
 -- a search from the start
@@ -28,54 +24,13 @@ at_start c l e f = omega arith
 
 -- ---- the key
 
-abbrev fill_keys : List String
-fill_keys = "principal" ∷ "resource" ∷ "context" ∷ "entity" ∷ []
-
-abbrev fill_bytes : List ℕ
-fill_bytes = ascii "principal,resource,context,entity"
-
-and_false : (t : Bool) → (t && false) ≡ false
-and_false true = refl
-and_false false = refl
-
 and_true : (t : Bool) → (t && true) ≡ t
 and_true true = refl
 and_true false = refl
 
-module _ (l : List ℕ) (e : ℕ) (f : e ≡ 0 + up_to 61 (drop 0 l)) where
-  pub key_unended : length l ≤ e → false ≡ may_fill l
-  key_unended h = let g : up_to 61 l ≡ e = sym (at_start 61 l e f) in rw (le-ltb (up_to 61 l) (length l) (omega arith)) (sym (and_false (ltb (place_in (key_in l) fill_keys) 4)))
-
-  module _ (h : e < length l) (k : List ℕ) (p : k ≡ take e l) (r : N.Number) (n : number_of r ≡ placed k (split 44 fill_bytes)) where
-    key_is : k ≡ key_in l
-    key_is = p ∙ ap (λ (i : ℕ). take i l) (at_start 61 l e f)
-
-    number_is : number_of r ≡ word_number (key_in l) fill_keys
-    number_is = words_are (key_in l) fill_keys fill_bytes r refl (n ∙ ap (λ (w : List ℕ). placed w (split 44 fill_bytes)) key_is)
-
-    may : (t : Bool) → ltb (place_in (key_in l) fill_keys) 4 ≡ t → t ≡ may_fill l
-    may t e₀ = let g : up_to 61 l ≡ e = sym (at_start 61 l e f) in rw (e₀, lt-ltb (up_to 61 l) (length l) (omega arith)) (sym (and_true t))
-
-    pub key_found : (m : ℕ) → r ≡ N.TheVariants.Value m → true ≡ may_fill l
-    key_found m q = may true (go (ltb (place_in (key_in l) fill_keys) 4) (sym (ap number_of q) ∙ number_is))
-      where
-        go : (t : Bool) → some m ≡ cond t (some (place_in (key_in l) fill_keys)) none → t ≡ true
-        go true z = refl
-        go false z = let w : ◌≡◌ {A = ℕ} 0 1 = cc in absurd (omega arith)
-
-    pub key_absent : r ≡ N.TheVariants.Refused → false ≡ may_fill l
-    key_absent q = may false (go (ltb (place_in (key_in l) fill_keys) 4) (sym (ap number_of q) ∙ number_is))
-      where
-        go : (t : Bool) → none ≡ cond t (some (place_in (key_in l) fill_keys)) none → t ≡ false
-        go true z = let w : ◌≡◌ {A = ℕ} 0 1 = cc in absurd (omega arith)
-        go false z = refl
-
 -- ---- an item
 
 module _ (old new : List ℕ) (t : Bool) (s : t ≡ same old new) where
-  pub stays : t ≡ true → true ≡ (same old new || same old (ascii "?"))
-  stays e = rw (← s, e) refl
-
   pub was_unknown : t ≡ false → (u : Bool) → u ≡ same old (ascii "?") → u ≡ (same old new || same old (ascii "?"))
   was_unknown e u q = rw (← s, e) q
 
@@ -86,9 +41,6 @@ pub record Filling (old new : List ℕ) (i j : ℕ) : Type 0 where
   pub near_old : i ≤ length old
   pub near_new : j ≤ length new
   pub left : fills_only (split 44 old) (split 44 new) ≡ fills_only (split 44 (drop i old)) (split 44 (drop j new))
-
-pub filling_start : (old new : List ℕ) → Filling old new 0 0
-filling_start old new = record { near_old = omega arith; near_new = omega arith; left = refl }
 
 module _ (old new : List ℕ) (i j e f : ℕ) (k : Filling old new i j) (p : e ≡ i + up_to 44 (drop i old)) (q : f ≡ j + up_to 44 (drop j new))
     (x y : List ℕ) (xp : x ≡ part old i e) (yp : y ≡ part new j f) (b : Bool) (s : b ≡ (same x y || same x (ascii "?"))) where
@@ -127,66 +79,59 @@ module _ (old new : List ℕ) (i j e f : ℕ) (k : Filling old new i j) (p : e �
 
 -- ---- the whole line
 
-pub after_none : (l r : List ℕ) (a : ℕ) → length l ≤ a → r ≡ drop a l → r ≡ drop (a + 1) l
-after_none l r a h p = p ∙ drop_of_length-le l h ∙ sym (drop_of_length-le l {i = a + 1} (omega arith))
-
 -- the key is the same, and some items are filled
 abbrev Filled : List ℕ → List ℕ → Bool
 Filled old new = same (key_in old) (key_in new) && (fills_only (items_in old) (items_in new) && not (same old new))
 
 module _ (old new : List ℕ) (t : Bool) (s : t ≡ same old new) where
-  pub filled_nothing : t ≡ true → false ≡ Filled old new
-  filled_nothing e =
-      sym (ap (λ (u : Bool). same (key_in old) (key_in new) && (fills_only (items_in old) (items_in new) && not u)) (sym s ∙ e)
-      ∙ ap (λ (u : Bool). same (key_in old) (key_in new) && u) (and_false (fills_only (items_in old) (items_in new))) ∙ and_false (same (key_in old) (key_in new)))
-
   module _ (other : t ≡ false) (was is : ℕ) (p : was ≡ 0 + up_to 61 (drop 0 old)) (q : is ≡ 0 + up_to 61 (drop 0 new)) (x y : List ℕ) (xp : x ≡ take was old) (yp : y ≡ take is new)
-      (b : Bool) (kb : b ≡ same x y) where
-    keys_are : same (key_in old) (key_in new) ≡ b
-    keys_are = ap₂ same (ap (λ (i : ℕ). take i old) (sym (at_start 61 old was p)) ∙ sym xp) (ap (λ (i : ℕ). take i new) (sym (at_start 61 new is q)) ∙ sym yp) ∙ sym kb
+      (b : Bool) (kb : b ≡ not (same x y)) where
+    keys_are : same (key_in old) (key_in new) ≡ same x y
+    keys_are = ap₂ same (ap (λ (i : ℕ). take i old) (sym (at_start 61 old was p)) ∙ sym xp) (ap (λ (i : ℕ). take i new) (sym (at_start 61 new is q)) ∙ sym yp)
 
-    pub filled_key : not b ≡ true → false ≡ Filled old new
-    filled_key n = sym (ap (λ (u : Bool). u && (fills_only (items_in old) (items_in new) && not (same old new))) (keys_are ∙ not-true b n))
+    pub filled_key : b ≡ true → false ≡ Filled old new
+    filled_key n = sym (ap (λ (u : Bool). u && (fills_only (items_in old) (items_in new) && not (same old new))) (keys_are ∙ not-true (same x y) (sym kb ∙ n)))
 
-    pub filled_items : not b ≡ false → (u v : List ℕ) → u ≡ drop (was + 1) old → v ≡ drop (is + 1) new → (r : Bool) → r ≡ fills_only (split 44 u) (split 44 v) → r ≡ Filled old new
+    pub filled_items : b ≡ false → (u v : List ℕ) → u ≡ drop (was + 1) old → v ≡ drop (is + 1) new → (r : Bool) → r ≡ fills_only (split 44 u) (split 44 v) → r ≡ Filled old new
     filled_items n u v up vp r f =
         let z : was + 1 ≡ suc (up_to 61 old) = omega (arith, at_start 61 old was p) in
         let w : is + 1 ≡ suc (up_to 61 new) = omega (arith, at_start 61 new is q) in
         f ∙ ap₂ (λ (k l : List ℕ). fills_only (split 44 k) (split 44 l)) (up ∙ ap (λ (i : ℕ). drop i old) z) (vp ∙ ap (λ (i : ℕ). drop i new) w)
-        ∙ sym (ap₂ (λ (k l : Bool). k && (fills_only (items_in old) (items_in new) && not l)) (keys_are ∙ not-false b n) (sym s ∙ other) ∙ and_true (fills_only (items_in old) (items_in new)))
+        ∙ sym (ap₂ (λ (k l : Bool). k && (fills_only (items_in old) (items_in new) && not l)) (keys_are ∙ not-false (same x y) (sym kb ∙ n)) (sym s ∙ other) ∙ and_true (fills_only (items_in old) (items_in new)))
 
-among_is : (c : ℕ) (l : List ℕ) → among c l ≡ ltb (up_to c l) (length l)
-among_is c [] = refl
-among_is c (x ∷ l) = go (eqb x c) refl (among_is c l)
+among_any : (c : ℕ) (l : List ℕ) → list_any (λ y. nat_eq y c) l ≡ among c l
+among_any c [] = refl
+among_any c (x ∷ l) = ap₂ (λ (a b : Bool). a || b) (same_test x c) (among_any c l)
   where
-    go : (t : Bool) → eqb x c ≡ t → among c l ≡ ltb (up_to c l) (length l) → (eqb c x || among c l) ≡ ltb (cond t 0 (suc (up_to c l))) (suc (length l))
-    go true e ih = rw (eq-eqb c x (sym (eqb-true x c e)), lt-ltb 0 (suc (length l)) (omega arith)) refl
-    go false e ih = rw (ne_eqb c x (λ z. eqb-false x c e (sym z)), leb-suc-suc (suc (up_to c l)) (length l)) ih
+    same_test : (x y : ℕ) → eqb x y ≡ eqb y x
+    same_test x y = go (eqb x y) refl
+      where
+        go : (t : Bool) → eqb x y ≡ t → t ≡ eqb y x
+        go true e = sym (eq-eqb y x (sym (eqb-true x y e)))
+        go false e = sym (ne_eqb y x (λ z. eqb-false x y e (sym z)))
 
-module _ (old new : List ℕ) (e : ℕ) (f : e ≡ 0 + up_to 10 (drop 0 new)) where
+module _ (old new : List ℕ) (t : Bool) (f : t ≡ list_any (λ y. nat_eq y 10) new) where
   abbrev rules : Bool → Bool → Bool → Bool → Bool
   rules a b c d = not a && (b && (c && d))
 
-  pub fills_two_lines : e < length new → false ≡ fills old new
+  lone : among 10 new ≡ t
+  lone = sym (f ∙ among_any 10 new)
+
+  pub fills_two_lines : t ≡ true → false ≡ fills old new
   unfolding fills
-  fills_two_lines h =
-      let g : up_to 10 new < length new = omega (arith, at_start 10 new e f) in
-      sym (ap (λ (u : Bool). rules u (may_fill old) (may_fill new) (Filled old new)) (among_is 10 new ∙ lt-ltb (up_to 10 new) (length new) g))
+  fills_two_lines h = sym (ap (λ (u : Bool). rules u (may_fill old) (may_fill new) (Filled old new)) (lone ∙ h))
 
-  module _ (h : length new ≤ e) (b : Bool) (bp : b ≡ may_fill old) where
-    lone : among 10 new ≡ false
-    lone = among_is 10 new ∙ le-ltb (up_to 10 new) (length new) (omega (arith, at_start 10 new e f))
-
+  module _ (h : t ≡ false) (b : Bool) (bp : b ≡ may_fill old) where
     pub fills_old : not b ≡ true → false ≡ fills old new
     unfolding fills
-    fills_old n = sym (ap₂ (λ (u v : Bool). rules u v (may_fill new) (Filled old new)) lone (sym bp ∙ not-true b n))
+    fills_old n = sym (ap₂ (λ (u v : Bool). rules u v (may_fill new) (Filled old new)) (lone ∙ h) (sym bp ∙ not-true b n))
 
     module _ (n : not b ≡ false) (c : Bool) (cp : c ≡ may_fill new) where
       pub fills_new : not c ≡ true → false ≡ fills old new
       unfolding fills
-      fills_new m = sym (ap₂ (λ (u v : Bool). rules u v (may_fill new) (Filled old new)) lone (sym bp ∙ not-false b n) ∙ ap (λ (w : Bool). w && Filled old new) (sym cp ∙ not-true c m))
+      fills_new m = sym (ap₂ (λ (u v : Bool). rules u v (may_fill new) (Filled old new)) (lone ∙ h) (sym bp ∙ not-false b n) ∙ ap (λ (w : Bool). w && Filled old new) (sym cp ∙ not-true c m))
 
       pub fills_so : not c ≡ false → (d : Bool) → d ≡ Filled old new → d ≡ fills old new
       unfolding fills
       fills_so m d g =
-          g ∙ sym (ap₂ (λ (u v : Bool). rules u v (may_fill new) (Filled old new)) lone (sym bp ∙ not-false b n) ∙ ap (λ (w : Bool). w && Filled old new) (sym cp ∙ not-false c m))
+          g ∙ sym (ap₂ (λ (u v : Bool). rules u v (may_fill new) (Filled old new)) (lone ∙ h) (sym bp ∙ not-false b n) ∙ ap (λ (w : Bool). w && Filled old new) (sym cp ∙ not-false c m))

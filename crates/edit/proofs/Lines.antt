@@ -10,6 +10,8 @@ use lib.ListN.{length, get_or, take, drop, set, length-drop, drop_of_length-le}
 use lib.Seq.{drop-drop}
 use Rattle.words.specs.Log.{part}
 use Rattle.sheet.specs.Bytes.{up_to, split, ahead}
+use Rattle.print.specs.declared.Out.{Out}
+use Rattle.print.specs.Out.{Prints}
 use Rattle.print.specs.Written.{Written}
 use Rattle.print.proofs.Writing.{written_append, written_as}
 use Rattle.scan.proofs.Splits.{split_parts}
@@ -38,47 +40,38 @@ start_on k (x ∷ t) h = go (eqb x 10) (start_on k t) h
     go true ih g = omega arith
     go false ih g = let z = ih (omega arith) in omega (arith, z)
 
--- where the search for line n stands: the rest begins at `at`, with so many lines before the one that is wanted
-pub record Seeking (sheet : List ℕ) (n before at : ℕ) : Type 0 where
+-- where the search for line n stands: line k begins at `at`
+pub record Seeking (sheet : List ℕ) (n k at : ℕ) : Type 0 where
   pub near : at ≤ length sheet
-  pub left : begin_of sheet n ≡ at + start_of before (drop at sheet)
+  pub left : begin_of sheet n ≡ at + start_of (n - k) (drop at sheet)
 
-pub seeking_none : (sheet : List ℕ) (n : ℕ) → n ≡ 0 → length sheet ≡ begin_of sheet n
-seeking_none sheet n e = sym (ap (begin_of sheet) e)
-
-pub seeking_start : (sheet : List ℕ) (n : ℕ) → (n ≡ 0 → ⊥) → Seeking sheet n (n - 1) 0
-seeking_start sheet n h =
-    let z : n ≡ suc (n - 1) = omega (arith, h) in
-    let y : start_of (n - 1) sheet ≡ 0 + start_of (n - 1) sheet = omega arith in
-    record { near = omega arith; left = ap (begin_of sheet) z ∙ y }
-
-module _ (sheet : List ℕ) (n before at : ℕ) (k : Seeking sheet n before at) where
-  pub seeking_end : before ≤ 0 → at ≡ begin_of sheet n
+module _ (sheet : List ℕ) (n k at : ℕ) (s : Seeking sheet n k at) where
+  pub seeking_end : n ≤ k → at ≡ begin_of sheet n
   unfolding start_of
   seeking_end h =
-      let z : before ≡ 0 = omega arith in
-      let y : start_of before (drop at sheet) ≡ 0 = ap (λ (i : ℕ). start_of i (drop at sheet)) z in
-      omega (arith, k.left, y)
+      let z : n - k ≡ 0 = omega arith in
+      let y : start_of (n - k) (drop at sheet) ≡ 0 = ap (λ (i : ℕ). start_of i (drop at sheet)) z in
+      omega (arith, s.left, y)
 
-  module _ (more : 0 < before) (e : ℕ) (f : e ≡ at + up_to 10 (drop at sheet)) where
-    one_more : start_of before (drop at sheet) ≡ start_of (suc (before - 1)) (drop at sheet)
-    one_more = let z : before ≡ suc (before - 1) = omega arith in ap (λ (i : ℕ). start_of i (drop at sheet)) z
+  module _ (more : k < n) (e : ℕ) (f : e ≡ at + up_to 10 (drop at sheet)) where
+    one_more : start_of (n - k) (drop at sheet) ≡ start_of (suc (n - (k + 1))) (drop at sheet)
+    one_more = let z : n - k ≡ suc (n - (k + 1)) = omega arith in ap (λ (i : ℕ). start_of i (drop at sheet)) z
 
     pub seeking_past : length sheet ≤ e → length sheet ≡ begin_of sheet n
     seeking_past h =
         let l = length-drop at sheet in
-        let z = start_past (before - 1) (drop at sheet) (omega (arith, l, k.near)) in
-        omega (arith, k.left, k.near, one_more, z, l)
+        let z = start_past (n - (k + 1)) (drop at sheet) (omega (arith, l, s.near)) in
+        omega (arith, s.left, s.near, one_more, z, l)
 
-    pub seeking_on : e < length sheet → Seeking sheet n (before - 1) (e + 1)
+    pub seeking_on : e < length sheet → Seeking sheet n (k + 1) (e + 1)
     seeking_on h =
         let l = length-drop at sheet in
         let u = up_to 10 (drop at sheet) in
-        let z = start_on (before - 1) (drop at sheet) (omega (arith, l, k.near)) in
+        let z = start_on (n - (k + 1)) (drop at sheet) (omega (arith, l, s.near)) in
         let m : at + suc u ≡ e + 1 = omega arith in
         let d : drop (suc u) (drop at sheet) ≡ drop (e + 1) sheet = drop-drop (suc u) at sheet ∙ ap (λ (i : ℕ). drop i sheet) m in
-        let y : start_of (before - 1) (drop (suc u) (drop at sheet)) ≡ start_of (before - 1) (drop (e + 1) sheet) = ap (start_of (before - 1)) d in
-        record { near = omega arith; left = omega (arith, k.left, one_more, z, y) }
+        let y : start_of (n - (k + 1)) (drop (suc u) (drop at sheet)) ≡ start_of (n - (k + 1)) (drop (e + 1) sheet) = ap (start_of (n - (k + 1))) d in
+        record { near = omega arith; left = omega (arith, s.left, one_more, z, y) }
 
 -- ---- the line's bytes
 
@@ -177,7 +170,9 @@ copy_is sheet (suc i) new h =
     ap (λ (j : ℕ). join_lines (set (split 10 sheet) j new)) z ∙ copy_from i sheet new h
     ∙ ap (λ (t : List ℕ). take a sheet ++ (new ++ t)) (drop-drop (up_to 10 (drop a sheet)) a sheet)
 
--- the copy, written in three parts
-pub replaced_written : {c₀ c₁ c₂ c₃ x y : List ℕ} {a b c : ℕ} (sheet new : List ℕ) (start end : ℕ) → x ≡ take start sheet → y ≡ drop end sheet → Written c₀ 0 x c₁ a → Written c₁ a new c₂ b → Written c₂ b y c₃ c
-    → Written c₀ 0 (replaced sheet start end new) c₃ c
-replaced_written sheet new start end xp yp p q s = written_append (written_as p xp) (written_append q (written_as s yp))
+-- the copy, printed in three parts into the buffer, which then has what the last print left
+pub replaced_printed : {o a b c : Out} {x y : List ℕ} (sheet new : List ℕ) (start end : ℕ) → o.at ≡ 0 → x ≡ take start sheet → y ≡ drop end sheet → Prints o x a → Prints a new b → Prints b y c
+    → Written o.buffer.now 0 (replaced sheet start end new) c.buffer.now c.at
+replaced_printed {o = o} {c = c} sheet new start end z xp yp p q s =
+    let w = written_append (written_as p.written xp) (written_append q.written (written_as s.written yp)) in
+    subst (λ (i : ℕ). Written o.buffer.now i (replaced sheet start end new) c.buffer.now c.at) z w

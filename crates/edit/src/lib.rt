@@ -9,8 +9,8 @@ ghost use Rattle.sheet.specs.Bytes.{split, same};
 ghost use Rattle.previewed.specs.Preview.{key_in, items_in, may_fill, fills_only, fills};
 ghost use Rattle.edit.specs.Places.{begin_of, replaced};
 
-use print::bytes;
-use scan::{Number, find, front, part_of, place, rest, same_bytes};
+use print::Out;
+use scan::{find, front, part_of, place, rest};
 
 // ---- a line for a line
 
@@ -22,26 +22,21 @@ fn may_fill(line: &[u8]) -> bool
     if equals >= line.len() {
         return false;
     }
-    match place(front(line, equals), b"principal,resource,context,entity") {
-        Number::Value(_) => true,
-        Number::Refused => false,
-    }
+    place(front(line, equals), b"principal,resource,context,entity").is_some()
 }
 
 // Whether an item may become another: it stays, or was a lone `?`.
 fn may_become(old: &[u8], new: &[u8]) -> bool
     ensures { result ≡ (same old.now new.now || same old.now (ascii "?")) }
 {
-    if same_bytes(old, new) {
-        return true;
-    }
-    same_bytes(old, b"?")
+    old == new || old == b"?".as_slice()
 }
 
 // Whether two values have as many items, and each of the old ones may become the new one at its place.
 fn items_filled(old: &[u8], new: &[u8]) -> bool
     ensures { result ≡ fills_only (split 44 old.now) (split 44 new.now) }
 {
+    // kept: both places leap from comma to comma.
     let mut i = 0;
     let mut j = 0;
     loop {
@@ -75,12 +70,12 @@ fn after(bytes: &[u8], at: usize) -> &[u8]
 fn filled(old: &[u8], new: &[u8]) -> bool
     ensures { result ≡ (same (key_in old.now) (key_in new.now) && (fills_only (items_in old.now) (items_in new.now) && not (same old.now new.now))) }
 {
-    if same_bytes(old, new) {
+    if old == new {
         return false;
     }
     let was = find(old, 0, b'=');
     let is = find(new, 0, b'=');
-    if !same_bytes(front(old, was), front(new, is)) {
+    if front(old, was) != front(new, is) {
         return false;
     }
     items_filled(after(old, was), after(new, is))
@@ -90,7 +85,7 @@ fn filled(old: &[u8], new: &[u8]) -> bool
 pub fn fills(old: &[u8], new: &[u8]) -> bool
     ensures { result ≡ fills old.now new.now }
 {
-    if find(new, 0, b'\n') < new.len() {
+    if new.contains(&b'\n') {
         return false;
     }
     if !may_fill(old) {
@@ -105,21 +100,20 @@ pub fn fills(old: &[u8], new: &[u8]) -> bool
 // ---- the line of a sheet
 
 // Where the line of this number begins, counted from 1; the sheet's end where it lacks the line.
+// kept: an Option would not tell a line that the sheet lacks from the empty one after its last line end: `begin_of` has one place for both.
 pub fn begin(sheet: &[u8], line: usize) -> usize
     ensures { result ≡ begin_of sheet.now line }
 {
     if line == 0 {
         return sheet.len();
     }
-    let mut before = line - 1;
     let mut at = 0;
-    while before > 0 {
+    for _ in 1..line {
         let e = find(sheet, at, b'\n');
         if e >= sheet.len() {
             return sheet.len();
         }
         at = e + 1;
-        before -= 1;
     }
     at
 }
@@ -128,7 +122,9 @@ pub fn begin(sheet: &[u8], line: usize) -> usize
 pub fn replace(copy: &mut [u8], sheet: &[u8], start: usize, end: usize, new: &[u8]) -> usize
     ensures { Written copy.old 0 (replaced sheet.now start end new.now) copy.new result }
 {
-    let a = bytes(copy, 0, front(sheet, start));
-    let b = bytes(copy, a, new);
-    bytes(copy, b, rest(sheet, end))
+    let mut out = Out::new(copy);
+    out.bytes(front(sheet, start));
+    out.bytes(new);
+    out.bytes(rest(sheet, end));
+    out.len()
 }

@@ -5,10 +5,14 @@ use mathlib.Core.List.{List, [], ◌∷◌}
 use Prim.Native.Nat.{ℕ, suc, ◌+◌, ◌-◌, ◌*◌, ◌≤◌, ◌<◌}
 use native.Mathlib.Numerals.{add-one}
 use native.Mathlib.Omega.{arith}
-use borrow.Author.Tests.{eq-eqb, ne_eqb, lt-ltb, le-ltb, not-true, not-false}
+use borrow.Author.Tests.{eq-eqb, ne_eqb, lt-ltb, le-ltb, ltb-true, ltb-false, not-true, not-false}
+use Rattle.std.specs.Prelude.{Some, None}
+use Rattle.std.specs.List.{position, position_or_len}
+use Rattle.std.proofs.lemmas.Option.{none-some, cond_some}
+use Rattle.std.proofs.lemmas.List.Recursion.{is_position_or_len}
 use lib.Dec.{ltb, eqb}
 use lib.ListN.{length, get_or, take, drop, set, length-drop, drop_of_length-le}
-use lib.Seq.{drop-cons, get_or-take, get_or-drop, length-take-le}
+use lib.Seq.{drop-cons, length-take-le}
 use Rattle.cedar.specs.Numbered.{mem_n}
 use Rattle.sheet.specs.Forms.{at, KIND, SHAPE, NODE, POLICY, LINK, no_key}
 use Rattle.sheet.specs.State.{State, empty, lines_of, sum, before}
@@ -25,38 +29,26 @@ use Rattle.judge.proofs.Alike.{count_alike}
 
 -- ---- the lowest node that is not used
 
-pub record Unused (a b : List ℕ) (n i : ℕ) : Type 0 where
-  pub left : first_unused (uses_in a b) ≡ i + first_unused (drop i (uses_in a b))
-  pub near : i ≤ n
+-- it is the place of the first 0
+unused_at : (l : List ℕ) → first_unused l ≡ position_or_len (λ x. eqb x 0) l
+unused_at l = is_position_or_len first_unused (λ x. eqb x 0) refl (λ x xs. ap (cond (eqb x 0) 0) (omega arith)) l
 
-module _ (a b : List ℕ) (long : USES + get_or a NODE 0 ≤ length b) (n : ℕ) (hn : n ≡ get_or a NODE 0) where
-  uses_long : length (uses_in a b) ≡ n
-  uses_long = length-take-le (get_or a NODE 0) (drop USES b) (rw (length-drop USES b) (omega arith)) ∙ sym hn
+module _ (a b : List ℕ) (long : USES + get_or a NODE 0 ≤ length b) where
+  -- the uses are noted of all nodes
+  uses_long : length (uses_in a b) ≡ get_or a NODE 0
+  uses_long = length-take-le (get_or a NODE 0) (drop USES b) (rw (length-drop USES b) (omega arith))
 
-  pub unused_start : Unused a b n 0
-  unused_start = record { left = omega arith; near = omega arith }
+  pub unused_some : (u : ℕ) → Some u ≡ position (λ x. eqb x 0) (uses_in a b) → (u ≡ first_unused (uses_in a b)) × (u < get_or a NODE 0)
+  unused_some u e =
+      let h = cond_some _ _ u (sym e) in
+      (sym h.1 ∙ sym (unused_at (uses_in a b)), omega (arith, uses_long, ltb-true _ _ h.0, h.1))
 
-  module _ (i : ℕ) (s : Unused a b n i) where
-    module _ (u : ℕ) (h : i < n) (hu : u ≡ get_or b (USES + i) 0) where
-      use_at : drop i (uses_in a b) ≡ u ∷ drop (suc i) (uses_in a b)
-      use_at =
-          drop-cons (uses_in a b) i 0 (rw uses_long h)
-          ∙ ap (λ (x : ℕ). x ∷ drop (suc i) (uses_in a b)) (get_or-take (get_or a NODE 0) (drop USES b) i 0 (omega arith) ∙ get_or-drop USES b i 0 ∙ sym hu)
-
-      pub unused_here : u ≡ 0 → i ≡ first_unused (uses_in a b)
-      unused_here e =
-          let q : first_unused (drop i (uses_in a b)) ≡ 0 = ap first_unused use_at ∙ rw (eq-eqb u 0 e) refl in
-          omega (arith, s.left, q)
-
-      pub unused_on : (u ≡ 0 → ⊥) → Unused a b n (i + 1)
-      unused_on e =
-          let q : first_unused (drop i (uses_in a b)) ≡ suc (first_unused (drop (suc i) (uses_in a b))) = ap first_unused use_at ∙ rw (ne_eqb u 0 e) refl in
-          subst (Unused a b n) (sym (add-one i)) (record { left = omega (arith, s.left, q); near = omega arith })
-
-    pub unused_none : n ≤ i → i ≡ first_unused (uses_in a b)
-    unused_none h =
-        let q : first_unused (drop i (uses_in a b)) ≡ 0 = ap first_unused (drop_of_length-le (uses_in a b) {i = i} (rw uses_long h)) in
-        omega (arith, s.left, q)
+  pub unused_none : None ≡ position (λ x. eqb x 0) (uses_in a b) → get_or a NODE 0 ≤ first_unused (uses_in a b)
+  unused_none e = go (ltb (position_or_len (λ x. eqb x 0) (uses_in a b)) (length (uses_in a b))) refl e
+    where
+      go : (t : Bool) → ltb (position_or_len (λ x. eqb x 0) (uses_in a b)) (length (uses_in a b)) ≡ t → None ≡ cond t (Some (position_or_len (λ x. eqb x 0) (uses_in a b))) None → get_or a NODE 0 ≤ first_unused (uses_in a b)
+      go true p q = absurd (none-some _ q)
+      go false p q = omega (arith, uses_long, unused_at (uses_in a b), ltb-false _ _ p)
 
 -- ---- the lowest policy that has a slot and no link line
 
@@ -93,33 +85,29 @@ module _ (a b : List ℕ) (i : Noted a b) (k : ℕ) (q : List ℕ) (hq : q ≡ g
   pub unlinked_by : (n ≡ NO_SLOT → ⊥) → (f : Bool) → f ≡ mem_n k (firsts (rows_of a LINK)) → not f ≡ (any_slot (nodes_under (held [] a []) (at (get_or (rows_of a POLICY) k []) 2)) && not (mem_n k (firsts (rows_of a LINK))))
   unlinked_by e f hf = sym (rw (root_slots, ne_eqb n NO_SLOT e, ← hf) refl)
 
-pub record Linking (a : List ℕ) (n i : ℕ) : Type 0 where
-  pub left : first_unlinked (held [] a []) 0 (rows_of a POLICY) ≡ first_unlinked (held [] a []) i (drop i (rows_of a POLICY))
-  pub near : i ≤ n
+-- none before number i is
+abbrev pub LinkedBelow : List ℕ → ℕ → Type 0
+LinkedBelow a i = first_unlinked (held [] a []) 0 (rows_of a POLICY) ≡ first_unlinked (held [] a []) i (drop i (rows_of a POLICY))
 
-module _ (a : List ℕ) (n : ℕ) (hn : n ≡ get_or a POLICY 0) where
-  pub linking_start : Linking a n 0
-  linking_start = record { left = refl; near = omega arith }
+module _ (a : List ℕ) (i : ℕ) (s : LinkedBelow a i) where
+  module _ (h : i < get_or a POLICY 0) (u : Bool) (hu : u ≡ (any_slot (nodes_under (held [] a []) (at (get_or (rows_of a POLICY) i []) 2)) && not (mem_n i (firsts (rows_of a LINK))))) where
+    policy_at : first_unlinked (held [] a []) i (drop i (rows_of a POLICY)) ≡ cond u i (first_unlinked (held [] a []) (suc i) (drop (suc i) (rows_of a POLICY)))
+    policy_at =
+        ap (first_unlinked (held [] a []) i) (drop-cons (rows_of a POLICY) i [] (rw (count_rows a POLICY) (omega arith)))
+        ∙ ap (λ (t : Bool). cond t i (first_unlinked (held [] a []) (suc i) (drop (suc i) (rows_of a POLICY)))) (links_as ∙ sym hu)
+      where
+        links_as : (any_slot (nodes_under (held [] a []) (at (get_or (rows_of a POLICY) i []) 2)) && not (mem_n i (firsts (lines_of (held [] a []) LINK))))
+            ≡ (any_slot (nodes_under (held [] a []) (at (get_or (rows_of a POLICY) i []) 2)) && not (mem_n i (firsts (rows_of a LINK))))
+        links_as = ap (λ (l : List (List ℕ)). any_slot (nodes_under (held [] a []) (at (get_or (rows_of a POLICY) i []) 2)) && not (mem_n i (firsts l))) (lines_held_law [] a [] LINK (omega arith) (λ q. absurd (omega arith)))
 
-  module _ (i : ℕ) (s : Linking a n i) where
-    module _ (h : i < n) (u : Bool) (hu : u ≡ (any_slot (nodes_under (held [] a []) (at (get_or (rows_of a POLICY) i []) 2)) && not (mem_n i (firsts (rows_of a LINK))))) where
-      policy_at : first_unlinked (held [] a []) i (drop i (rows_of a POLICY)) ≡ cond u i (first_unlinked (held [] a []) (suc i) (drop (suc i) (rows_of a POLICY)))
-      policy_at =
-          ap (first_unlinked (held [] a []) i) (drop-cons (rows_of a POLICY) i [] (rw (count_rows a POLICY) (omega arith)))
-          ∙ ap (λ (t : Bool). cond t i (first_unlinked (held [] a []) (suc i) (drop (suc i) (rows_of a POLICY)))) (links_as ∙ sym hu)
-        where
-          links_as : (any_slot (nodes_under (held [] a []) (at (get_or (rows_of a POLICY) i []) 2)) && not (mem_n i (firsts (lines_of (held [] a []) LINK))))
-              ≡ (any_slot (nodes_under (held [] a []) (at (get_or (rows_of a POLICY) i []) 2)) && not (mem_n i (firsts (rows_of a LINK))))
-          links_as = ap (λ (l : List (List ℕ)). any_slot (nodes_under (held [] a []) (at (get_or (rows_of a POLICY) i []) 2)) && not (mem_n i (firsts l))) (lines_held_law [] a [] LINK (omega arith) (λ q. absurd (omega arith)))
+    pub linking_here : u ≡ true → i ≡ first_unlinked (held [] a []) 0 (rows_of a POLICY)
+    linking_here e = sym (s ∙ policy_at ∙ rw e refl)
 
-      pub linking_here : u ≡ true → i ≡ first_unlinked (held [] a []) 0 (rows_of a POLICY)
-      linking_here e = sym (s.left ∙ policy_at ∙ rw e refl)
+    pub linking_on : u ≡ false → LinkedBelow a (i + 1)
+    linking_on e = subst (LinkedBelow a) (sym (add-one i)) (s ∙ policy_at ∙ rw e refl)
 
-      pub linking_on : u ≡ false → Linking a n (i + 1)
-      linking_on e = subst (Linking a n) (sym (add-one i)) (record { left = s.left ∙ policy_at ∙ rw e refl; near = omega arith })
-
-    pub linking_none : n ≤ i → i ≡ first_unlinked (held [] a []) 0 (rows_of a POLICY)
-    linking_none h = sym (s.left ∙ ap (first_unlinked (held [] a []) i) (drop_of_length-le (rows_of a POLICY) {i = i} (rw (count_rows a POLICY) (omega arith))))
+  pub linking_none : get_or a POLICY 0 ≤ i → i ≡ first_unlinked (held [] a []) 0 (rows_of a POLICY)
+  linking_none h = sym (s ∙ ap (first_unlinked (held [] a []) i) (drop_of_length-le (rows_of a POLICY) {i = i} (rw (count_rows a POLICY) (omega arith))))
 
 -- it looks at the nodes and the links of a state
 pub unlinked_same : (s u : State) → lines_of s NODE ≡ lines_of u NODE → lines_of s LINK ≡ lines_of u LINK → (n : ℕ) (rs : List (List ℕ)) → first_unlinked s n rs ≡ first_unlinked u n rs
@@ -145,12 +133,6 @@ pub record Summed (a : List ℕ) (k s i : ℕ) : Type 0 where
   pub low : s ≤ i * 4294967295
   pub near : i ≤ k
   pub early : k ≤ POLICY
-
-pub summed_start : (a : List ℕ) (k : ℕ) → k ≤ POLICY → Summed a k 0 0
-summed_start a k h =
-    let z : k - 0 ≡ k = omega arith in
-    let q : sum (take (k - 0) (drop 0 (counts_in a))) ≡ sum (take k (counts_in a)) = ap (λ (c : ℕ). sum (take c (counts_in a))) z in
-    record { left = omega (arith, q); low = omega arith; near = omega arith; early = h }
 
 module _ (a : List ℕ) (k s i : ℕ) (t : Summed a k s i) where
   pub summed_on : (x : ℕ) → i < k → x ≡ get_or a i 0 → x < 4294967296 → Summed a k (s + x) (i + 1)

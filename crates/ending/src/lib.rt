@@ -1,47 +1,40 @@
 // What is asked where the entity lines end, and where the sheet ends.
 #![tactic(auto)]
 
-ghost use Rattle.std.specs.Prelude.{◌≡◌, ◌&&◌, not, [], ◌+◌, ◌≤◌, length, get_or, drop};
+ghost use Rattle.std.specs.Prelude.{◌≡◌, ◌&&◌, not, [], ◌+◌, ◌≤◌, ◌<◌, ◌==◌, length, get_or, drop, position, SomeIff};
 ghost use Rattle.cedar.specs.Numbered.{mem_n};
 ghost use Rattle.sheet.specs.Ascii.{ascii};
 ghost use Rattle.sheet.specs.Bytes.{starts};
 ghost use Rattle.sheet.specs.Forms.{at, NODE, POLICY, LINK};
 ghost use Rattle.sheet.specs.State.{before};
 ghost use Rattle.sheet.specs.Typing.{nodes_under};
-ghost use Rattle.sheet.specs.Sheet.{firsts, any_slot, first_unlinked, first_unused, ending};
+ghost use Rattle.sheet.specs.Sheet.{firsts, any_slot, first_unlinked, ending};
 ghost use Rattle.table.specs.Layout.{USES, rows_of, held};
 ghost use Rattle.uses.specs.Uses.{uses_in};
 ghost use Rattle.uses.specs.Under.{Noted};
+ghost use Rattle.faults.specs.Numbers.{number_of, line_of};
 ghost use Rattle.ending.specs.Unfit.{unfit_line};
 
 use above::first_unfit;
+use faults::{Fault, Refusal};
 use forms::{ENTITY, LINK, NO_KEY, NODE, POLICY, PRINCIPAL};
 use order::enough_before;
 use repeats::is_first;
-use scan::{front, rest, same_bytes};
+use scan::rest;
 use table::{USES, count, item, row};
-use uses::{NO_SLOT, slots_at};
+use uses::{NO_SLOT, noted};
 use words::read;
-
-// A refusal and its line; 0 and 0 where the sheet is accepted.
-#[derive(Clone, Copy)]
-pub struct Loaded {
-    pub number: u32,
-    pub line: usize,
-}
 
 // How many lines stand before those of a key.
 fn lines_before(rows: &[u32], key: usize) -> usize
     requires { key ≤ POLICY }
     ensures { (result ≡ before (held [] rows.now []) key) × (result ≤ 55834574835) }
 {
-    let mut s: usize = 0;
-    let mut i = 0;
-    while i < key {
-        s += count(rows, i) as usize;
-        i += 1;
+    let mut lines = 0;
+    for k in 0..key {
+        lines += count(rows, k) as usize;
     }
-    s
+    lines
 }
 
 // ---- before a line
@@ -50,106 +43,88 @@ fn lines_before(rows: &[u32], key: usize) -> usize
 fn begins_entity(sheet: &[u8], at: usize) -> bool
     ensures { result ≡ starts (ascii "entity=") (drop at sheet.now) }
 {
-    same_bytes(b"entity=", front(rest(sheet, at), 7))
+    rest(sheet, at).starts_with(b"entity=")
 }
 
-// Where the line at byte `at` ends the entity lines: the number of the first of these that reaches a kind which is not above its own, 0 where none
-// does. A principal line was there only if none did, and before the first entity line there is none.
-pub fn unfit_line(sheet: &[u8], rows: &[u32], at: usize) -> usize
+// Where the line at byte `at` ends the entity lines: the number of the first of these that reaches a kind which is not above its own, if one does.
+// A principal line was there only if none did, and before the first entity line there is none.
+pub fn unfit_line(sheet: &[u8], rows: &[u32], at: usize) -> Option<usize>
     ensures { result ≡ unfit_line rows.now (drop at sheet.now) }
 {
     if count(rows, PRINCIPAL) != 0 {
-        return 0;
+        return None;
     }
     let n = count(rows, ENTITY);
     if n == 0 {
-        return 0;
+        return None;
     }
     if begins_entity(sheet, at) {
-        return 0;
+        return None;
     }
     let u = first_unfit(rows);
     if u >= n {
-        return 0;
+        return None;
     }
-    lines_before(rows, ENTITY) + u as usize + 1
+    Some(lines_before(rows, ENTITY) + u as usize + 1)
 }
 
 // ---- after the last line
 
-// The lowest node that is not used, their number where all are.
-fn first_unused(rows: &[u32], work: &[u32]) -> usize
+// The lowest node that is not used.
+fn first_unused(rows: &[u32], work: &[u32]) -> Option<usize>
     requires { USES + get_or rows.now NODE 0 ≤ length work.now }
-    ensures { result ≡ first_unused (uses_in rows.now work.now) }
+    ensures { result ≡ position (λ uses. uses == 0) (uses_in rows.now work.now) }
 {
     let n = count(rows, NODE) as usize;
-    let mut i = 0;
-    while i < n {
-        let u = read(work, USES + i);
-        if u == 0 {
-            return i;
-        }
-        i += 1;
-    }
-    i
+    work[USES..USES + n].iter().position(|&uses| uses == 0)
 }
 
 // Whether a policy has a slot and no link line.
+// kept: rows and work are lent shared here and mutable in take, so what is noted of both would need a struct for each, which is no plainer.
 fn is_unlinked(rows: &[u32], work: &[u32], policy: u32) -> bool
     requires { Noted rows.now work.now }
     ensures { result ≡ any_slot (nodes_under (held [] rows.now []) (at (get_or (rows_of rows.now POLICY) policy []) 2)) && not (mem_n policy (firsts (rows_of rows.now LINK))) }
 {
     let root = item(row(rows, POLICY, policy), 3);
-    if slots_at(rows, work, root) == NO_SLOT {
-        return false;
-    }
-    !is_first(rows, LINK, policy)
+    noted(rows, work, root).slots != NO_SLOT && !is_first(rows, LINK, policy)
 }
 
-// The lowest policy that has a slot and no link line, their number where none has.
-fn first_unlinked(rows: &[u32], work: &[u32]) -> u32
+// The lowest policy that has a slot and no link line.
+fn first_unlinked(rows: &[u32], work: &[u32]) -> Option<u32>
     requires { Noted rows.now work.now }
-    ensures { result ≡ first_unlinked (held [] rows.now []) 0 (rows_of rows.now POLICY) }
+    ensures { SomeIff result (first_unlinked (held [] rows.now []) 0 (rows_of rows.now POLICY) < get_or rows.now POLICY 0) (first_unlinked (held [] rows.now []) 0 (rows_of rows.now POLICY)) }
 {
-    let n = count(rows, POLICY);
-    let mut i = 0;
-    while i < n {
-        if is_unlinked(rows, work, i) {
-            return i;
+    for policy in 0..count(rows, POLICY) {
+        if is_unlinked(rows, work, policy) {
+            return Some(policy);
         }
-        i += 1;
     }
-    i
+    None
 }
 
 // After the last line, with the number of the next: a line missing, a slot whose policy has no link line, a node never used, or accepted.
-pub fn finish(rows: &[u32], work: &[u32], next: usize) -> Loaded
+pub fn finish(rows: &[u32], work: &[u32], next: usize) -> Result<(), Refusal>
     requires { (USES + get_or rows.now NODE 0 ≤ length work.now) × Noted rows.now work.now }
-    ensures number { result.number ≡ (ending (held [] rows.now work.now) next).number }
-    ensures line { result.line ≡ (ending (held [] rows.now work.now) next).line }
+    ensures number { number_of result ≡ (ending (held [] rows.now work.now) next).number }
+    ensures line { line_of result ≡ (ending (held [] rows.now work.now) next).line }
 {
     if !enough_before(rows, NO_KEY) {
-        return Loaded {
-            number: 3,
+        return Err(Refusal {
+            fault: Fault::Form,
             line: next,
-        };
+        });
     }
-    let p = first_unlinked(rows, work);
-    if p < count(rows, POLICY) {
-        let m = lines_before(rows, POLICY);
-        return Loaded {
-            number: 5,
-            line: m + p as usize + 1,
-        };
+    if let Some(policy) = first_unlinked(rows, work) {
+        return Err(Refusal {
+            fault: Fault::Reference,
+            line: lines_before(rows, POLICY) + policy as usize + 1,
+        });
     }
-    let u = first_unused(rows, work);
-    let n = count(rows, NODE) as usize;
-    if u < n {
-        let m = lines_before(rows, NODE);
-        return Loaded {
-            number: 8,
-            line: m + u + 1,
-        };
+    if let Some(node) = first_unused(rows, work) {
+        return Err(Refusal {
+            fault: Fault::Uses,
+            line: lines_before(rows, NODE) + node + 1,
+        });
     }
-    Loaded { number: 0, line: 0 }
+    Ok(())
 }

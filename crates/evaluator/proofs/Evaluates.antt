@@ -21,9 +21,7 @@ use Rattle.sheet.proofs.running.MadeCount.{policy_sizes}
 use Rattle.table.specs.Layout.{RUN, rows_of, held}
 use Rattle.residual.specs.Classes.{class_number}
 use Rattle.tpe.proofs.Stands.{Hold, Room}
-use Rattle.evaluator.specs.Run.{E, Rec, Step, yields, node_in, policy_in, steps, err_step, step_at, step_of, eval_of, class_of, class_numbers, Ran, ran_from}
-use Rattle.evaluator.specs.declared.Yield.{Yield}
-use Rattle.evaluator.specs.declared.Yield.TheVariants.{Error}
+use Rattle.evaluator.specs.Run.{Yield, failed, E, Rec, Step, yields, node_in, policy_in, steps, err_step, step_at, step_of, eval_of, class_of, class_numbers, Ran, ran_from}
 use Rattle.evaluator.proofs.Ways.{under}
 use Rattle.evaluator.proofs.Gives.{Says, says_value, says_error, Stand, Gives, is_error_law, some_room, rest_room}
 use Rattle.evaluator.proofs.Steps.{sch, Meets, lit_meets, slot_meets, err_meets, var_meets, un_meets, get_meets, has_meets, path_meets, bin_meets, rel_meets, and_meets, or_meets, if_meets}
@@ -117,7 +115,7 @@ module _ (sheet a₀ : List ℕ) (G : Env) where
   unfolding eval_of step_of step_at tree_at
   meets p q zero n = record { run = λ a l C X s room h. zero_gives a l C X s room h }
     where
-      zero_gives : (a l : List ℕ) (C : List Content) (X : Expr) → Stand sheet a₀ G C a → Room 1 a l → Reads C (err tbool) X → Gives sheet a₀ G C 1 a (yields a Error) (eval (sch sheet a₀ G) G X)
+      zero_gives : (a l : List ℕ) (C : List Content) (X : Expr) → Stand sheet a₀ G C a → Room 1 a l → Reads C (err tbool) X → Gives sheet a₀ G C 1 a (yields a failed) (eval (sch sheet a₀ G) G X)
       zero_gives a l C X s room xerr = is_error_law sheet a₀ G C C 1 a l room (omega arith) a (λ n x e. e) s (record { top = omega arith; few = omega arith })
   meets p q (suc d) n = record {
     run = λ a l C X s room h. rw (s.hold.same NODE (omega arith))

@@ -40,16 +40,6 @@ to_end i r =
     let h : length r - i ≡ length (drop i r) = sym (length-drop i r) in
     ap (λ (m : ℕ). take m (drop i r)) h ∙ take-length (drop i r)
 
-module _ (a : List ℕ) (n : ℕ) (r : List ℕ) (er : r ≡ get_or (rows_of a NODE) n []) where
-  pub word_is : (j x : ℕ) → x ≡ get_or r j 0 → x ≡ get_or (node_in a n) j 0
-  word_is j x e = e ∙ ap (λ (l : List ℕ). get_or l j 0) er
-
-  pub rest_is : (q : List ℕ) → q ≡ part r 3 (length r) → q ≡ drop 3 (node_in a n)
-  rest_is q e = e ∙ to_end 3 r ∙ ap (drop 3) er
-
-pub like_is : (sheet a r p : List ℕ) (v : ℕ) (g : Given) → p ≡ r → out_of g ≡ like_out (text_at sheet a) p (value_in a v) → out_of g ≡ like_out (text_at sheet a) r (value_in a v)
-like_is sheet a r p v g ep e = e ∙ ap (λ (q : List ℕ). like_out (text_at sheet a) q (value_in a v)) ep
-
 -- ---- a path
 
 module _ (a : List ℕ) where
@@ -94,16 +84,6 @@ module _ (a : List ℕ) where
 
     pub path_some : (g : Given) → 1 ≤ length p → out_of g ≡ walked_out (walk_from true a v 0 p) → out_of g ≡ walk_out a r v
     path_some g h e = e ∙ sym (path_is h)
-
-  module _ (v : ℕ) (p : List ℕ) (w : Walked) (ew : w ≡ walk_from true a v 0 p) where
-    pub walked_holds : (x : Bool) → w ≡ Holds x → out_of (Boolᵍ x) ≡ walked_out (walk_from true a v 0 p)
-    walked_holds x e = sym (ap walked_out (sym ew ∙ e))
-
-    pub walked_fails : w ≡ Failsʷ → out_of Fails ≡ walked_out (walk_from true a v 0 p)
-    walked_fails e = sym (ap walked_out (sym ew ∙ e))
-
-    pub walked_left : (n k i : ℕ) → w ≡ Left n k i → out_of Stays ≡ walked_out (walk_from true a v 0 p)
-    walked_left n k i e = sym (ap walked_out (sym ew ∙ e))
 
 -- ---- a tag that is none of those before
 

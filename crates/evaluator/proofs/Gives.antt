@@ -8,6 +8,7 @@ use Prim.Native.Nat.{ℕ, suc, ◌+◌, ◌*◌, ◌≤◌}
 use native.Mathlib.Omega.{arith}
 use lib.ListN.{length, get_or}
 use borrow.Author.Tests.{lt-ltb, le-leb}
+use Rattle.std.specs.Prelude.{Ok, Err}
 use Rattle.cedar.specs.Types.{Var}
 use Rattle.cedar.specs.Value.{Value as Content, vbool, vlong, vtext, vent, vset, vrec, Result, ok, fail, bind, ok_bool, find, on_some}
 use Rattle.cedar.specs.Residual.{Rel, rin, rgettag, rhastag}
@@ -32,16 +33,15 @@ use Rattle.tpe.proofs.Outcomes.{words_row, words_formed, words_short, Fine}
 use Rattle.tpe.proofs.Reach.{reach, asks, reach_asked}
 use Rattle.tpe.proofs.Stands.{Hold, Room, Space, Spent, space_spent}
 use Rattle.tpe.proofs.Stands as S
-use Rattle.evaluator.specs.Run.{E, yields, values, made_of, give_of, settle_of, on_yield, next, on_bool, bool_only, path_out}
-use Rattle.evaluator.specs.declared.Yield.{Yield}
-use Rattle.evaluator.specs.declared.Yield.TheVariants.{Value, Error}
+use Rattle.evaluator.specs.declared.EvalError.{EvalError}
+use Rattle.evaluator.specs.Run.{Yield, failed, E, yields, values, made_of, give_of, settle_of, on_yield, next, on_bool, bool_only, path_out}
 use Rattle.cedar.specs.Value as W
 use Rattle.cedar.specs.Interpret as I
 
 -- a yield by number and a result by content
 pub data Says (C : List Content) : Yield → Result → Type 0 where
-  says_value : {n : ℕ} {v : Content} → At C n v → Says C (Value n) (ok v)
-  says_error : Says C Error fail
+  says_value : {n : ℕ} {v : Content} → At C n v → Says C (Ok n) (ok v)
+  says_error : {f : EvalError} → Says C (Err f) fail
 
 module _ (sheet a₀ : List ℕ) (G : Env) where
   -- the words hold the sheet, its request and entities, and values of contents C
@@ -62,10 +62,10 @@ module _ (sheet a₀ : List ℕ) (G : Env) where
   -- ---- over words a₁ of contents D, reached from a
 
   module _ (C D : List Content) (n : ℕ) (a l : List ℕ) (room : Room n a l) (one : 1 ≤ n) (a₁ : List ℕ) (keep : Keeps C D) (s : Stand D a₁) where
-    pub is_value : Spent n a a₁ → {v : ℕ} {x : Content} → At D v x → Gives C n a (yields a₁ (Value v)) (ok x)
+    pub is_value : Spent n a a₁ → {v : ℕ} {x : Content} → At D v x → Gives C n a (yields a₁ (Ok v)) (ok x)
     is_value p h = record { contents = D; keeps = keep; stand = s; says = says_value h; top = p.top; few = p.few }
 
-    pub is_error_law : Spent n a a₁ → Gives C n a (yields a₁ Error) fail
+    pub is_error_law : Spent n a a₁ → Gives C n a (yields a₁ failed) fail
     is_error_law p = record { contents = D; keeps = keep; stand = s; says = says_error; top = p.top; few = p.few }
 
     pub is_made : (w : ℕ) → Space w n a a₁ → (q : List ℕ) → Formed q → length q ≤ w → {x : Content} → Denotes D (value_row q) x → Gives C n a (made_of a₁ q) (ok x)
@@ -146,10 +146,10 @@ module _ (sheet a₀ : List ℕ) (G : Env) where
     space : suc p ≤ n → Space 3 n a o.words
     space h = record { top = omega (arith, k.top, h); few = omega (arith, k.few, h) }
 
-    pub then_error : p ≤ n → Gives C n a (yields o.words Error) fail
+    pub then_error : p ≤ n → Gives C n a (yields o.words failed) fail
     then_error h = is_error_law C k.contents n a l room one o.words k.keeps k.stand (spent h)
 
-    pub then_value : p ≤ n → {v : ℕ} {x : Content} → At k.contents v x → Gives C n a (yields o.words (Value v)) (ok x)
+    pub then_value : p ≤ n → {v : ℕ} {x : Content} → At k.contents v x → Gives C n a (yields o.words (Ok v)) (ok x)
     then_value h = is_value C k.contents n a l room one o.words k.keeps k.stand (spent h)
 
     pub then_bool : suc p ≤ n → (b : Bool) → Gives C n a (made_of o.words (bool_row b)) (ok_bool b)
@@ -177,11 +177,11 @@ module _ (sheet a₀ : List ℕ) (G : Env) where
 
     pub bools : p ≤ n → (g : List ℕ → Bool → E) (h : Bool → Result) → ((b : Bool) → Gives C n a (g o.words b) (h b)) → Gives C n a (on_bool o g) (bool_of r h)
     unfolding on_bool
-    bools le g h f = nexts le (λ b v. r_bool (yields b Error) (row_at (values b) v) (g b)) (λ v. W.on_bool fail v h)
+    bools le g h f = nexts le (λ b v. r_bool (yields b failed) (row_at (values b) v) (g b)) (λ v. W.on_bool fail v h)
         (λ v x e. on_bool_law (Gives C n a) (then_error le) (g o.words) h (denotes e) f)
 
     kept : p ≤ n → {v : ℕ} {x : Content} {q : Row} → At k.contents v x → Denotes k.contents q x
-        → Gives C n a (r_bool (yields o.words Error) q (λ b. yields o.words (Value v))) (W.on_bool fail x ok_bool)
+        → Gives C n a (r_bool (yields o.words failed) q (λ b. yields o.words (Ok v))) (W.on_bool fail x ok_bool)
     kept le e dbool = then_value le e
     kept le e dlong = then_error le
     kept le e dtext = then_error le
@@ -191,7 +191,7 @@ module _ (sheet a₀ : List ℕ) (G : Env) where
 
     pub bool_only_law : p ≤ n → Gives C n a (bool_only o) (bool_of r ok_bool)
     unfolding bool_only
-    bool_only_law le = nexts le (λ b v. r_bool (yields b Error) (row_at (values b) v) (λ c. yields b (Value v))) (λ v. W.on_bool fail v ok_bool) (λ v x e. kept le e (denotes e))
+    bool_only_law le = nexts le (λ b v. r_bool (yields b failed) (row_at (values b) v) (λ c. yields b (Ok v))) (λ v. W.on_bool fail v ok_bool) (λ v x e. kept le e (denotes e))
 
 -- ---- where all is known, what is known is what evaluation gives
 

@@ -6,6 +6,7 @@ use mathlib.Core.List.{List, [], ◌∷◌}
 use Prim.Native.Nat.{ℕ, zero, suc, ◌+◌, ◌-◌}
 use lib.Dec.{ltb}
 use lib.ListN.{length, get_or}
+use Rattle.std.specs.Prelude.{Ok, Err}
 use Rattle.cedar.specs.Rows.{Row, rbool, rlong, rtext, rent, rset, rrec}
 use Rattle.cedar.specs.Numbered.{Give, made, old, NOut, give, fails, stays, row_at, r_bool}
 use Rattle.sheet.specs.Forms.{at, first_node}
@@ -13,10 +14,8 @@ use Rattle.value.specs.Made.{bool_row, with_value, written}
 use Rattle.value.specs.Clear.{Clear}
 use Rattle.value.proofs.ClearLaws.{clear_kept}
 use Rattle.tpe.proofs.Kept.{Each, done, ◌&◌, each_at}
-use Rattle.evaluator.specs.Run.{E, Rec, Kids, yields, values, node_in, made_of, give_of, settle_of, opt_of, on_yield, next, on_bool, bool_only, side_of, branch_of, next_kid, kids, kids_of, many_of, Step, lit_step, err_step, var_step, lazy_step, if_step, one_step, two_step, set_step, rec_step, slot_step, twos, ones, each, steps, step_at, step_of, eval_of}
+use Rattle.evaluator.specs.Run.{Yield, failed, E, Rec, Kids, yields, values, node_in, made_of, give_of, settle_of, opt_of, on_yield, next, on_bool, bool_only, side_of, branch_of, next_kid, kids, kids_of, many_of, Step, lit_step, err_step, var_step, lazy_step, if_step, one_step, two_step, set_step, rec_step, slot_step, twos, ones, each, steps, step_at, step_of, eval_of}
 use Rattle.evaluator.specs.Gave.{GaveBeside}
-use Rattle.evaluator.specs.declared.Yield.{Yield}
-use Rattle.evaluator.specs.declared.Yield.TheVariants.{Value, Error}
 
 module _ (P : List ℕ → Type 0) (keep : (a r : List ℕ) → P a → P (with_value a r)) where
   -- the evaluator at the depth below keeps it
@@ -49,14 +48,14 @@ module _ (P : List ℕ → Type 0) (keep : (a r : List ℕ) → P a → P (with_
 
   on_yield_kept : (a : List ℕ) (y : Yield) (k : ℕ → E) → P a → ((v : ℕ) → P (k v).words) → P (on_yield a y k).words
   unfolding on_yield
-  on_yield_kept a (Value v) k h f = f v
-  on_yield_kept a Error k h f = h
+  on_yield_kept a (Ok v) k h f = f v
+  on_yield_kept a (Err e) k h f = h
 
   next_kept : (o : E) (k : List ℕ → ℕ → E) → P o.words → ((v : ℕ) → P (k o.words v).words) → P (next o k).words
   unfolding next
   next_kept o k h f = on_yield_kept o.words o.yield (k o.words) h f
 
-  bool_kept : (a : List ℕ) (r : Row) (k : Bool → E) → P a → ((b : Bool) → P (k b).words) → P (r_bool (yields a Error) r k).words
+  bool_kept : (a : List ℕ) (r : Row) (k : Bool → E) → P a → ((b : Bool) → P (k b).words) → P (r_bool (yields a failed) r k).words
   bool_kept a (rbool b) k h f = f b
   bool_kept a (rlong n) k h f = h
   bool_kept a (rtext t) k h f = h
@@ -89,8 +88,8 @@ module _ (P : List ℕ → Type 0) (keep : (a r : List ℕ) → P a → P (with_
 
     next_kid_kept : (a l : List ℕ) (y : Yield) (k : List ℕ → Kids) → P a → ((m : List ℕ) → P (k m).words) → P (next_kid a l y k).words
     unfolding next_kid
-    next_kid_kept a l (Value v) k h g = g _
-    next_kid_kept a l Error k h g = h
+    next_kid_kept a l (Ok v) k h g = g _
+    next_kid_kept a l (Err e) k h g = h
 
     kids_kept : (n s k i : ℕ) (a l : List ℕ) → P a → P (kids_of f n s k i a l).words
     unfolding kids_of
@@ -108,7 +107,7 @@ module _ (P : List ℕ → Type 0) (keep : (a r : List ℕ) → P a → P (with_
   unfolding many_of
   many_kept q k h = go k.all
     where
-      go : (b : Bool) → P (cond b (made_of k.words (written k.log q)) (yields k.words Error)).words
+      go : (b : Bool) → P (cond b (made_of k.words (written k.log q)) (yields k.words failed)).words
       go true = made_kept k.words _ h
       go false = h
 

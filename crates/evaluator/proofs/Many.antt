@@ -38,8 +38,7 @@ use Rattle.tpe.specs.Run.{others}
 use Rattle.tpe.proofs.Reach.{reach}
 use Rattle.tpe.proofs.Stands.{Room}
 use Rattle.tpe.proofs.Sets.{sort_short, drop_two}
-use Rattle.evaluator.specs.Run.{E, Rec, node_in, Kids, kids, next_kid, kids_of, most, many_of, set_step, rec_step}
-use Rattle.evaluator.specs.declared.Yield.{Yield}
+use Rattle.evaluator.specs.Run.{Yield, E, Rec, node_in, Kids, kids, next_kid, kids_of, most, many_of, set_step, rec_step}
 use Rattle.evaluator.proofs.Gives.{Says, says_value, says_error, Stand, Gives, is_error_law, is_made, some_room}
 use Rattle.evaluator.proofs.Steps.{sch, Meets, same_node}
 

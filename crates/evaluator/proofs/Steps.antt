@@ -6,6 +6,7 @@ use mathlib.Core.List.{List, []}
 use Prim.Native.Nat.{ℕ, suc, ◌+◌, ◌≤◌}
 use native.Mathlib.Omega.{arith}
 use lib.ListN.{get_or, drop}
+use Rattle.std.specs.Prelude.{Ok}
 use Rattle.tpe.proofs.Reach.{asks}
 use Rattle.cedar.specs.Value.{Value as Content, Result, ok, bind, ok_bool}
 use Rattle.cedar.specs.Types.{Ty, Schema, Var, principal, action, resource, context}
@@ -32,8 +33,7 @@ use Rattle.tpe.proofs.Outcomes.{GiveFine, Fine, words_row, words_formed, words_s
 use Rattle.tpe.proofs.Stands.{Hold, Room, Spent, same_sheet, schema_is, env_is, env_at}
 use Rattle.lookup.specs.Lookups.{env_by}
 use lib.Dec.{eqb}
-use Rattle.evaluator.specs.Run.{E, Rec, yields, values, give_of, settle_of, opt_of, next, node_in, side_of, branch_of, path_out, lit_step, err_step, var_step, lazy_step, if_step, one_step, two_step, slot_step, un_out, bin_out, rel_out, get_out, has_out, walk_out, schema_of, env_of}
-use Rattle.evaluator.specs.declared.Yield.TheVariants.{Value, Error}
+use Rattle.evaluator.specs.Run.{failed, E, Rec, yields, values, give_of, settle_of, opt_of, next, node_in, side_of, branch_of, path_out, lit_step, err_step, var_step, lazy_step, if_step, one_step, two_step, slot_step, un_out, bin_out, rel_out, get_out, has_out, walk_out, schema_of, env_of}
 use Rattle.evaluator.proofs.Gives.{Stand, Gives, is_value, is_error_law, after, rest_room, some_room, then_bool, then_settles, nexts, bools, bool_only_law, rel_gives, get_gives, has_gives, path_gives, fine_path, is_asked}
 
 -- what is asked is an entity or has a number
@@ -81,10 +81,10 @@ module _ (sheet a₀ : List ℕ) (G : Env) where
   -- ---- leaves
 
   module _ (a l : List ℕ) (C : List Content) (s : Stand sheet a₀ G C a) (room : Room 1 a l) where
-    lit_gives : (T : Ty) (v : ℕ) (X : Expr) → Reads C (lit T v) X → Gives sheet a₀ G C 1 a (yields a (Value v)) (eval sch G X)
+    lit_gives : (T : Ty) (v : ℕ) (X : Expr) → Reads C (lit T v) X → Gives sheet a₀ G C 1 a (yields a (Ok v)) (eval sch G X)
     lit_gives T v X (xlit h) = is_value sheet a₀ G C C 1 a l room (omega arith) a (λ n x e. e) s (nothing_spent 1 a (omega arith)) h
 
-    err_gives : (T : Ty) (X : Expr) → Reads C (err T) X → Gives sheet a₀ G C 1 a (yields a Error) (eval sch G X)
+    err_gives : (T : Ty) (X : Expr) → Reads C (err T) X → Gives sheet a₀ G C 1 a (yields a failed) (eval sch G X)
     err_gives T X xerr = is_error_law sheet a₀ G C C 1 a l room (omega arith) a (λ n x e. e) s (nothing_spent 1 a (omega arith))
 
     opt_gives : {o : Option Give} {v : Content} (x : Var) → (asks a).request x ≡ o → GiveRead C o (some v) → OptFine o → Gives sheet a₀ G C 1 a (opt_of a o) (ok v)

@@ -1,15 +1,11 @@
 -- What the functions leave of the words and of the log, and what they yield, is as the definition says; and a yield as a bool.
-use Rattle.std.specs.Prelude.{◌≡◌, Bool, true, false, not, List, ℕ, length, take}
-use Rattle.std.proofs.Math.Option.{Option, none, some}
+use Rattle.std.specs.Prelude.{◌≡◌, Bool, true, false, not, Option, Some, None, Result, Ok, Err, IfOk, List, ℕ, length, take}
+use Rattle.std.proofs.Math.Option.{Option as Opt, none, some}
 use Rattle.words.specs.Log.{Holds}
 use Rattle.cedar.specs.Rows.{Row}
 use Rattle.cedar.specs.Numbered.{row_at, r_bool}
-use Rattle.evaluator.specs.Run.{E, Kids, Ran, values}
-use Rattle.evaluator.specs.declared.Yield.{Yield}
-use Rattle.evaluator.specs.declared.Yield.TheVariants.{Value, Error}
-use Rattle.evaluator.specs.declared.Truth.{Truth}
-use Rattle.evaluator.specs.declared.Truth.TheVariants.{Is, Other}
-use Rattle.evaluator.specs.declared.Children.{Children}
+use Rattle.evaluator.specs.Run.{E, Kids, Ran, Yield, values}
+use Rattle.evaluator.specs.declared.EvalError.{EvalError}
 
 pub record Gave (e : E) (is : List ℕ) (y : Yield) : Type 0 where
   pub words : is ≡ e.words
@@ -21,11 +17,16 @@ pub record GaveBeside (e : E) (is : List ℕ) (y : Yield) (bt : ℕ) (b b' : Lis
   pub yield : y ≡ e.yield
   pub log : take bt b' ≡ take bt b
 
--- and has the rows of the children more
-pub record Left (k : Kids) (is : List ℕ) (o : Children) (bt : ℕ) (b b' : List ℕ) : Type 0 where
+-- whether all children are values
+abbrev pub all_of : Result ℕ EvalError → Bool
+all_of (Ok end) = true
+all_of (Err e) = false
+
+-- and has the rows of the children more, up to where they end if all are values
+pub record Left (k : Kids) (is : List ℕ) (o : Result ℕ EvalError) (bt : ℕ) (b b' : List ℕ) : Type 0 where
   pub words : is ≡ k.words
-  pub all : o.all ≡ k.all
-  pub log : Holds bt b' o.end k.log
+  pub all : all_of o ≡ k.all
+  pub log : IfOk o (λ end. Holds bt b' end k.log)
   pub kept : take bt b' ≡ take bt b
 
 -- the run: the words, and the log, which ends at n
@@ -35,18 +36,18 @@ pub record Done (t : Ran) (a b : List ℕ) (n : ℕ) : Type 0 where
   pub end : n ≡ length t.log
 
 -- a bool, or none: as the code answers it
-abbrev pub truth_of : Truth → Option Bool
-truth_of (Is b) = some b
-truth_of Other = none
+abbrev pub truth_of : Option Bool → Opt Bool
+truth_of (Some b) = some b
+truth_of None = none
 
 -- as a value's row says it
-unfoldable pub as_bool : Row → Option Bool
+unfoldable pub as_bool : Row → Opt Bool
 as_bool r = r_bool none r some
 
 -- and a yield; an error is no bool
-unfoldable pub yield_bool : List ℕ → Yield → Option Bool
-yield_bool a (Value v) = as_bool (row_at (values a) v)
-yield_bool a Error = none
+unfoldable pub yield_bool : List ℕ → Yield → Opt Bool
+yield_bool a (Ok v) = as_bool (row_at (values a) v)
+yield_bool a (Err e) = none
 
 unfoldable pub same_bool : Bool → Bool → Bool
 same_bool true z = z

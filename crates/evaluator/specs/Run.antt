@@ -1,7 +1,7 @@
 -- Evaluation over the lent words a, which hold a complete sheet and the values, and a log l: the classes of the policies so far, then
 -- the values of a set's or record's children until it is made. Each definition is total; rows are read where they are needed, from the
 -- words as they then are. That this is `eval` of the Cedar specification is shown in proofs/.
-use Rattle.std.specs.Prelude.{Bool, true, false, cond, List, [], ◌∷◌, ℕ, zero, suc, ◌+◌, ◌-◌, ltb, length, get_or, drop}
+use Rattle.std.specs.Prelude.{Bool, true, false, cond, Result, Ok, Err, List, [], ◌∷◌, ℕ, zero, suc, ◌+◌, ◌-◌, ltb, length, get_or, drop}
 use Rattle.std.proofs.Math.Option.{Option, none, some}
 use Rattle.words.specs.Log.{appended, pushed}
 use Rattle.cedar.specs.Value.{on_some}
@@ -23,8 +23,15 @@ use Rattle.lookup.specs.Lookups.{env_by}
 use Rattle.walk.specs.declared.Walked.{Walked}
 use Rattle.walk.specs.declared.Walked.TheVariants.{Holds, Fails as Failsʷ, Left}
 use Rattle.tpe.specs.Run.{words_of, schema_in, env_in}
-use Rattle.evaluator.specs.declared.Yield.{Yield}
-use Rattle.evaluator.specs.declared.Yield.TheVariants.{Value, Error}
+use Rattle.tpe.specs.declared.Setting.{Setting}
+use Rattle.evaluator.specs.declared.EvalError.{EvalError}
+
+-- a value, by its number, or the error
+abbrev pub Yield : Type 0
+Yield = Result ℕ EvalError
+
+abbrev pub failed : Yield
+failed = Err (record {})
 
 -- the words with what was made, and what the node yields
 pub record E : Type 0 where
@@ -53,39 +60,39 @@ policy_in a i = get_or (rows_of a RUN) i []
 
 -- a value found or made by its words
 unfoldable pub made_of : List ℕ → List ℕ → E
-made_of a r = yields (with_value a r) (Value (number_of a r))
+made_of a r = yields (with_value a r) (Ok (number_of a r))
 
 unfoldable pub give_of : List ℕ → Give → E
 give_of a (made r) = made_of a (words_of r)
-give_of a (old v) = yields a (Value v)
+give_of a (old v) = yields a (Ok v)
 
 -- nothing is unknown on a complete sheet
 unfoldable pub settle_of : List ℕ → NOut → E
 settle_of a (give g) = give_of a g
-settle_of a fails = yields a Error
-settle_of a stays = yields a Error
+settle_of a fails = yields a failed
+settle_of a stays = yields a failed
 
 unfoldable pub opt_of : List ℕ → Option Give → E
-opt_of a none = yields a Error
+opt_of a none = yields a failed
 opt_of a (some g) = give_of a g
 
 -- a value goes on, an error is the answer
 unfoldable pub on_yield : List ℕ → Yield → (ℕ → E) → E
-on_yield a (Value v) k = k v
-on_yield a Error k = yields a Error
+on_yield a (Ok v) k = k v
+on_yield a (Err e) k = yields a failed
 
 unfoldable pub next : E → (List ℕ → ℕ → E) → E
 next o k = on_yield o.words o.yield (k o.words)
 
 -- a bool goes on, any other value is an error
 unfoldable pub on_bool : E → (List ℕ → Bool → E) → E
-on_bool o k = next o (λ a v. r_bool (yields a Error) (row_at (values a) v) (k a))
+on_bool o k = next o (λ a v. r_bool (yields a failed) (row_at (values a) v) (k a))
 
 -- ---- and, or, if
 
 -- a bool is left as it is
 unfoldable pub bool_only : E → E
-bool_only o = next o (λ a v. r_bool (yields a Error) (row_at (values a) v) (λ b. yields a (Value v)))
+bool_only o = next o (λ a v. r_bool (yields a failed) (row_at (values a) v) (λ b. yields a (Ok v)))
 
 -- z is the bool that decides; x is the right side
 unfoldable pub side_of : Bool → Rec → List ℕ → ℕ → List ℕ → Bool → E
@@ -115,8 +122,8 @@ abbrev pub kids : List ℕ → List ℕ → Bool → Kids
 kids a l b = record { words = a; log = l; all = b }
 
 unfoldable pub next_kid : List ℕ → List ℕ → Yield → (List ℕ → Kids) → Kids
-next_kid a l (Value v) k = k (appended l (lit_row v 0))
-next_kid a l Error k = kids a l false
+next_kid a l (Ok v) k = k (appended l (lit_row v 0))
+next_kid a l (Err e) k = kids a l false
 
 -- the children of node n from word i of its row on, every s-th word of it, k of them at most
 unfoldable pub kids_of : Rec → ℕ → ℕ → ℕ → ℕ → List ℕ → List ℕ → Kids
@@ -131,7 +138,7 @@ most = 16384
 
 -- a set or record, whose row is q if all are values
 unfoldable pub many_of : List ℕ → Kids → E
-many_of q k = cond k.all (made_of k.words (written k.log q)) (yields k.words Error)
+many_of q k = cond k.all (made_of k.words (written k.log q)) (yields k.words failed)
 
 -- ---- one step for each operation: words, log, the node and its row
 
@@ -143,10 +150,10 @@ abbrev pub env_of : List ℕ → NEnv
 env_of a = env_in complete [] a
 
 unfoldable pub lit_step : Step
-lit_step f a l n r = yields a (Value (at r 1))
+lit_step f a l n r = yields a (Ok (at r 1))
 
 unfoldable pub err_step : Step
-err_step f a l n r = yields a Error
+err_step f a l n r = yields a failed
 
 unfoldable pub var_step : Step
 var_step f a l n r = opt_of a ((env_of a).request (var_of (at r 1)))
@@ -172,7 +179,7 @@ rec_step f a l n r = let k = kids_of f n 2 most 3 a l in many_of (record_row (no
 
 -- of a link's two values that for the slot
 unfoldable pub slot_step : ℕ → ℕ → Step
-slot_step p q f a l n r = yields a (Value (slot_value p q (at r 1)))
+slot_step p q f a l n r = yields a (Ok (slot_value p q (at r 1)))
 
 -- ---- what an operation gives over two operands, and over one beside the node's row
 
@@ -242,15 +249,19 @@ module _ (sheet : List ℕ) where
 
     -- d levels of nodes
     unfoldable pub eval_of : ℕ → Rec
-    eval_of zero = λ a l n. yields a Error
+    eval_of zero = λ a l n. yields a failed
     eval_of (suc d) = step_of (eval_of d)
+
+-- under a setting
+abbrev pub eval_in : Setting → ℕ → Rec
+eval_in s = eval_of s.sheet.now s.principal s.resource
 
 -- ---- the policies in order, each over the values that the ones before it left
 
 -- "The policy's result there is true, false or error as it yields."
 unfoldable pub class_of : List ℕ → Yield → Class
-class_of a (Value v) = r_bool copen (row_at (values a) v) truth
-class_of a Error = cerror
+class_of a (Ok v) = r_bool copen (row_at (values a) v) truth
+class_of a (Err e) = cerror
 
 -- of the policy lines of an answer
 abbrev pub class_numbers : List Verdict → List ℕ

@@ -98,12 +98,10 @@ fn completed(
     ensures { Answers (after_partial (length out.old) partial.now complete.now) partial.now complete.now out.old result.number result.line result.length out.new }
 {
     let mut rows = row_words();
-    let o = open(complete, false, &mut rows, log);
-    let number = o.number;
-    if number != 0 {
+    if let Err(refusal) = open(complete, false, &mut rows, log) {
         return Returned {
-            number,
-            line: o.line,
+            number: refusal.fault.into(),
+            line: refusal.line,
             length: 0,
         };
     }
@@ -130,12 +128,10 @@ fn answered(
     requires { (length rows.old ≡ 16384) × (length log.old ≡ 16384) }
     ensures { Answers (after_lengths (length out.old) partial.now complete.now) partial.now complete.now out.old result.number result.line result.length out.new }
 {
-    let o = open(partial, true, rows, log);
-    let number = o.number;
-    if number != 0 {
+    if let Err(refusal) = open(partial, true, rows, log) {
         return Returned {
-            number,
-            line: o.line,
+            number: refusal.fault.into(),
+            line: refusal.line,
             length: 0,
         };
     }

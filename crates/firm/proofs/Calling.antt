@@ -158,8 +158,8 @@ module _ (n : ℕ) (sheet w₁ w₂ : List ℕ) where
         left = parts_worked w₁ w₂ p₁ p₂ h₁ h₂ l₁ l₂
 
         -- 3 to 8
-        pub begin_refused : (f : Q.Quote) → f ≡ refusal number line → (number ≡ 0 → ⊥) → Begins n sheet w₁ w₂ f a' b'
-        begin_refused f e z = subst (λ (x : Q.Quote). Begins n sheet w₁ w₂ x a' b') (sym e) (record {
+        pub begin_refused : (f : Q.Quote) (k : ℕ) → f ≡ refusal k line → k ≡ number → (number ≡ 0 → ⊥) → Begins n sheet w₁ w₂ f a' b'
+        begin_refused f k e g z = subst (λ (x : Q.Quote). Begins n sheet w₁ w₂ x a' b') (sym (e ∙ ap (λ (k : ℕ). refusal k line) g)) (record {
           checked = passed;
           line_is = λ y. absurd (z y);
           length_is = refl;

@@ -14,7 +14,7 @@ use forms::{MARK, PRINCIPAL, RESOURCE, TEXT};
 use interpret::CLASSES;
 use laid::lay;
 use opening::open;
-use response::{Decision, decision_of};
+use response::{Decision, Policies};
 use table::{count, item, row};
 use words::{ROOM, clear, cut, store};
 
@@ -42,7 +42,11 @@ fn decided(
     lay(rows, own, principal, resource);
     let end = interpret::run(sheet, own, log);
     interpret::lines(own, log, end);
-    decision_of(own, cut(log, CLASSES, ROOM))
+    let policies = Policies {
+        rows: own,
+        classes: cut(log, CLASSES, ROOM),
+    };
+    policies.decision()
 }
 
 // ---- rows
@@ -114,10 +118,8 @@ fn begin(rows: usize, sheet: &[u8], work1: &mut [u32], work2: &mut [u32]) -> Quo
     if rows > MOST_ROWS {
         return refused(14, 0);
     }
-    let o = open(sheet, true, &mut work1[..ROOM], &mut work2[..ROOM]);
-    let number = o.number;
-    if number != 0 {
-        return refused(number, o.line);
+    if let Err(refusal) = open(sheet, true, &mut work1[..ROOM], &mut work2[..ROOM]) {
+        return refused(u32::from(refusal.fault), refusal.line);
     }
     Quote {
         number: 0,
@@ -246,18 +248,14 @@ pub fn firm(rows: &mut [Row], sheet: &[u8], work1: &mut [u32], work2: &mut [u32]
 {
     let n = rows.len();
     let mut f = begin(n, sheet, work1, work2);
-    let mut i = 0;
-    while i < n {
+    for i in 0..n {
         f = check(f, rows[i], i, work1);
-        i += 1;
     }
     let mut own = row_words();
-    let mut j = 0;
-    while j < n {
+    for j in 0..n {
         let r = single(f, rows[j], sheet, work1, work2, &mut own);
         f = join(f, r);
         rows[j] = r;
-        j += 1;
     }
     finish(f, work1, work2)
 }
@@ -295,18 +293,14 @@ pub fn firm_in_words(words: &mut [u32], sheet: &[u8], work1: &mut [u32], work2: 
 {
     let n = words.len() / ROW;
     let mut f = begin(n, sheet, work1, work2);
-    let mut i = 0;
-    while i < n {
+    for i in 0..n {
         f = check(f, row_from(words, i), i, work1);
-        i += 1;
     }
     let mut own = row_words();
-    let mut j = 0;
-    while j < n {
+    for j in 0..n {
         let r = single(f, row_from(words, j), sheet, work1, work2, &mut own);
         f = join(f, r);
         put_row(words, j, r);
-        j += 1;
     }
     finish(f, work1, work2)
 }

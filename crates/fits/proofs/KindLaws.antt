@@ -1,14 +1,16 @@
 -- The kinds of an entity type's row, walked from word 1 to their end: what is left.
-use mathlib.Core.Path.{◌≡◌, refl, sym, ap, ◌∙◌}
-use mathlib.Core.Bool.{true, false}
+use mathlib.Core.Path.{◌≡◌, refl, ap, ◌∙◌}
+use mathlib.Core.Bool.{Bool, ◌&&◌}
 use mathlib.Core.List.{List, [], ◌∷◌}
 use Prim.Native.Nat.{ℕ, zero, suc, ◌+◌, ◌-◌, ◌≤◌, ◌<◌}
 use native.Mathlib.Omega.{arith}
-use borrow.Author.Tests.{eq-eqb, ne_eqb}
+use lib.Dec.{eqb}
+use Rattle.std.specs.List.{list_all, list_any}
 use lib.ListN.{length, get_or, drop, drop_of_length-le, length-drop}
 use lib.Seq.{drop-cons, get_or-drop}
 use Rattle.cedar.specs.Numbered.{mem_n}
 use Rattle.sheet.specs.Forms.{items}
+use Rattle.sheet.specs.Typing.{all_in}
 use Rattle.fits.specs.Fit.{kinds_in, kinds_from, kinds_end, kind_in}
 
 pub items_two : (y : List ℕ) → drop 1 (items y) ≡ drop 2 y
@@ -42,24 +44,21 @@ module _ (y : List ℕ) (i : ℕ) where
   unfolding kinds_from
   kinds_end_law h = drop_of_length-le (kinds_in y) {i = i - 1} (omega (arith, kinds_length y))
 
--- ---- `has_kind`
+-- ---- searches of a list
 
--- what is left of row y, from word i on, decides whether k is among its kinds
-pub record Kinds (y : List ℕ) (k i : ℕ) : Type 0 where
-  pub left : kind_in y k ≡ mem_n k (kinds_from y i)
-  pub low : 1 ≤ i
+eqb_comm : (a b : ℕ) → eqb a b ≡ eqb b a
+eqb_comm a b = grind arith
 
-pub kinds_start : (y : List ℕ) (k : ℕ) → Kinds y k 1
+-- what the search of a list finds is a member
+pub found_is : (k : ℕ) (l : List ℕ) → list_any (λ (x : ℕ). eqb x k) l ≡ mem_n k l
+found_is k [] = refl
+found_is k (x ∷ l) = rw (eqb_comm x k, found_is k l)
+
+-- a test of each member
+pub all_is : (f : ℕ → Bool) (l : List ℕ) → list_all f l ≡ all_in f l
+all_is f [] = refl
+all_is f (x ∷ l) = ap (λ (b : Bool). f x && b) (all_is f l)
+
+pub kind_is : (y l : List ℕ) (k : ℕ) (b : Bool) → l ≡ kinds_in y → b ≡ list_any (λ (x : ℕ). eqb x k) l → b ≡ kind_in y k
 unfolding kind_in
-kinds_start y k = record { left = rw (kinds_first y) refl; low = omega arith }
-
-module _ (y : List ℕ) (k i n : ℕ) (en : n ≡ kinds_end y) (inv : Kinds y k i) where
-  module _ (x : ℕ) (h : i < n) (ex : x ≡ get_or y i 0) where
-    pub kinds_hit : k ≡ x → true ≡ kind_in y k
-    kinds_hit e = sym (inv.left ∙ rw (kinds_next y i inv.low (omega arith), ← ex, eq-eqb k x e))
-
-    pub kinds_on : (k ≡ x → ⊥) → Kinds y k (i + 1)
-    kinds_on e = record { left = inv.left ∙ rw (kinds_next y i inv.low (omega arith), ← ex, ne_eqb k x e); low = omega (arith, inv.low) }
-
-  pub kinds_over : n ≤ i → false ≡ kind_in y k
-  kinds_over h = sym (inv.left ∙ rw (kinds_end_law y i (omega arith)))
+kind_is y l k b e q = q ∙ found_is k l ∙ ap (mem_n k) e

@@ -2,12 +2,14 @@
 use mathlib.Core.Path.{◌≡◌, refl, sym, ap, ◌∙◌}
 use mathlib.Core.Bool.{Bool, true, false, ◌&&◌, not}
 use mathlib.Core.Logic.{⊎_elim}
-use mathlib.Core.List.{List, []}
+use mathlib.Core.List.{List, [], ◌∷◌}
 use mathlib.Core.Option.{none, some}
 use Prim.Native.Nat.{ℕ, suc, ◌+◌, ◌-◌, ◌≤◌, ◌<◌}
 use native.Mathlib.Omega.{arith}
 use borrow.Author.Tests.{not-true, not-false}
-use lib.ListN.{length, get_or, drop, drop_of_length-le}
+use native.Mathlib.Numerals.{add-one}
+use lib.ListN.{length, get_or, take, drop, drop_of_length-le}
+use lib.Seq.{drop-cons}
 use Rattle.cedar.specs.Value.{on_some}
 use Rattle.cedar.proofs.Tools.{no_true}
 use Rattle.sheet.specs.Forms.{tag, items, VALUE, TYPE}
@@ -15,9 +17,8 @@ use Rattle.sheet.specs.State.{declareds, entries_of}
 use Rattle.sheet.specs.Typing.{declared_in, all_in, all_entries, fits_in}
 use Rattle.forms.specs.Tags.{SET_TYPE, RECORD_TYPE, SET_VALUE, RECORD_VALUE}
 use Rattle.table.specs.Layout.{rows_of, TYPEDEPTHS}
-use Rattle.fits.specs.Fit.{complete_in, declared_by, found_in, set_fits, record_fits, tags_fit_by, rows_fit, Leaf, marked, with_pair, SettledIn, deep, full, Known, Ran, Answered}
-use Rattle.fits.specs.declared.Found as F
-use Rattle.fits.proofs.Walks.{next, entries_end, entries_one, entries_on}
+use Rattle.fits.specs.Fit.{complete_in, declared_by, set_fits, record_fits, tags_fit_by, rows_fit, Leaf, marked, with_pair, SettledIn, deep, full, Known, Ran, Answered}
+use Rattle.fits.proofs.Walks.{entries_end, entries_on}
 use Rattle.fits.proofs.Sorts.{set_is, set_not, record_is, record_lacks, record_not}
 use Rattle.fits.proofs.Remembered.{only_pair, rest_pair}
 
@@ -57,95 +58,90 @@ module _ {a m n : List ℕ} {low high : Bool} where
   walk_as p q w = record { up = λ s e. w.up s (q ∙ e); down = λ e. w.down (p ∙ e); known = w.known; rest = w.rest }
 
   module _ (low' high' : Bool) {o : List ℕ} {x y b : Bool} (w : Walk a m n low high (x && low') (y && high')) (r : Ran a n o x y b) where
-    walk_on : not b ≡ false → Walk a m o low high low' high'
+    walk_on : b ≡ true → Walk a m o low high low' high'
     walk_on e = record {
-      up = λ s h. w.up s (and_true y high' (r.yes_is (not-false b e) s) h);
+      up = λ s h. w.up s (and_true y high' (r.yes_is e s) h);
       down = λ h. w.down (and_false x low' h);
       known = r.known;
       rest = r.rest ∙ w.rest;
     }
 
-    walk_off : not b ≡ true → Ran a m o low high false
-    walk_off e = ran_no (w.down (rw (r.no_is (not-true b e)))) r.known (r.rest ∙ w.rest)
+    walk_off : b ≡ false → Ran a m o low high false
+    walk_off e = ran_no (w.down (rw (r.no_is e))) r.known (r.rest ∙ w.rest)
 
--- ---- `elements`
+next : (r : List ℕ) (i : ℕ) → i < length r → drop i r ≡ get_or r i 0 ∷ drop (i + 1) r
+next r i h = rw (add-one i) (drop-cons r i 0 h)
+
+-- ---- `elements`: the items s of row r, walked from item i on
 
 module _ (a r : List ℕ) (y d : ℕ) where
-  pub record Elements (m n : List ℕ) (i : ℕ) : Type 0 where
-    pub walk : Walk a m n (set_fits (deep a d) r y) (set_fits (full a) r y) (all_in (λ x. deep a d x y) (drop i r)) (all_in (λ x. full a x y) (drop i r))
+  pub record Elements (m n s : List ℕ) (i : ℕ) : Type 0 where
+    pub walk : Walk a m n (set_fits (deep a d) r y) (set_fits (full a) r y) (all_in (λ x. deep a d x y) (drop i s)) (all_in (λ x. full a x y) (drop i s))
 
-  pub elements_start : (m : List ℕ) → Known a m → Elements m m 1
+  pub elements_start : (m s : List ℕ) → s ≡ items r → Known a m → Elements m m s 0
   unfolding set_fits
-  elements_start m k = record { walk = record { up = λ s e. e; down = λ e. e; known = k; rest = refl } }
+  elements_start m s e k = rw e (record { walk = record { up = λ s e. e; down = λ e. e; known = k; rest = refl } })
 
-  all_on : (f : ℕ → Bool) (i x : ℕ) → i < length r → x ≡ get_or r i 0 → all_in f (drop i r) ≡ (f x && all_in f (drop (i + 1) r))
-  all_on f i x h e = rw (next r i h, ← e)
+  all_on : (f : ℕ → Bool) (s : List ℕ) (i : ℕ) → i < length s → all_in f (drop i s) ≡ (f (get_or s i 0) && all_in f (drop (i + 1) s))
+  all_on f s i h = rw (next s i h)
 
-  module _ (m n o : List ℕ) (i x : ℕ) (b : Bool) (w : Elements m n i) (h : i < length r) (e : x ≡ get_or r i 0) (q : Ran a n o (deep a d x y) (full a x y) b) where
-    step : Walk a m n (set_fits (deep a d) r y) (set_fits (full a) r y) (deep a d x y && all_in (λ x. deep a d x y) (drop (i + 1) r)) (full a x y && all_in (λ x. full a x y) (drop (i + 1) r))
-    step = walk_as (all_on (λ x. deep a d x y) i x h e) (all_on (λ x. full a x y) i x h e) w.walk
+  module _ (m n o s : List ℕ) (i : ℕ) (b : Bool) (w : Elements m n s i) (h : i < length s) (q : Ran a n o (deep a d (get_or s i 0) y) (full a (get_or s i 0) y) b) where
+    step : Walk a m n (set_fits (deep a d) r y) (set_fits (full a) r y) (deep a d (get_or s i 0) y && all_in (λ x. deep a d x y) (drop (i + 1) s)) (full a (get_or s i 0) y && all_in (λ x. full a x y) (drop (i + 1) s))
+    step = walk_as (all_on (λ x. deep a d x y) s i h) (all_on (λ x. full a x y) s i h) w.walk
 
-    pub elements_on : not b ≡ false → Elements m o (i + 1)
-    elements_on nb = record { walk = walk_on (all_in (λ x. deep a d x y) (drop (i + 1) r)) (all_in (λ x. full a x y) (drop (i + 1) r)) step q nb }
+    pub elements_on : b ≡ true → Elements m o s (i + 1)
+    elements_on nb = record { walk = walk_on (all_in (λ x. deep a d x y) (drop (i + 1) s)) (all_in (λ x. full a x y) (drop (i + 1) s)) step q nb }
 
-    pub elements_off : not b ≡ true → Ran a m o (set_fits (deep a d) r y) (set_fits (full a) r y) false
-    elements_off nb = walk_off (all_in (λ x. deep a d x y) (drop (i + 1) r)) (all_in (λ x. full a x y) (drop (i + 1) r)) step q nb
+    pub elements_off : b ≡ false → Ran a m o (set_fits (deep a d) r y) (set_fits (full a) r y) false
+    elements_off nb = walk_off (all_in (λ x. deep a d x y) (drop (i + 1) s)) (all_in (λ x. full a x y) (drop (i + 1) s)) step q nb
 
-  pub elements_end : (m n : List ℕ) (i : ℕ) → Elements m n i → length r ≤ i → Ran a m n (set_fits (deep a d) r y) (set_fits (full a) r y) true
-  elements_end m n i w h =
-      let e : drop i r ≡ [] = drop_of_length-le r h in
+  pub elements_end : (m n s : List ℕ) (i : ℕ) → Elements m n s i → length s ≤ i → Ran a m n (set_fits (deep a d) r y) (set_fits (full a) r y) true
+  elements_end m n s i w h =
+      let e : drop i s ≡ [] = drop_of_length-le s h in
       walk_end (walk_as (ap (all_in (λ x. deep a d x y)) e) (ap (all_in (λ x. full a x y)) e) w.walk)
 
--- ---- `entries`
+-- ---- `entries`: items l are left
 
 module _ (a r y : List ℕ) (d : ℕ) where
-  abbrev left : (ℕ → ℕ → Bool) → ℕ → Bool
-  left f i = all_entries (λ t x. on_some false (declared_in t (declareds (items y))) (f x)) (entries_of (drop i r))
+  abbrev left : (ℕ → ℕ → Bool) → List ℕ → Bool
+  left f l = all_entries (λ t x. on_some false (declared_in t (declareds (items y))) (f x)) (entries_of l)
 
-  pub record Entered (m n : List ℕ) (i : ℕ) : Type 0 where
-    pub walk : Walk a m n (record_fits (deep a d) r y) (record_fits (full a) r y) (left (deep a d) i) (left (full a) i)
+  pub record Entered (m n l : List ℕ) : Type 0 where
+    pub walk : Walk a m n (record_fits (deep a d) r y) (record_fits (full a) r y) (left (deep a d) l) (left (full a) l)
 
-  pub entries_start : (m : List ℕ) → Known a m → Entered m m 1
+  pub entries_start : (m l : List ℕ) → l ≡ items r → Known a m → Entered m m l
   unfolding record_fits
-  entries_start m k = record { walk = record { up = λ s e. e; down = λ e. e; known = k; rest = refl } }
+  entries_start m l e k = rw e (record { walk = record { up = λ s e. e; down = λ e. e; known = k; rest = refl } })
 
-  module _ (m n : List ℕ) (i : ℕ) (w : Entered m n i) where
-    pub entries_done : length r ≤ i → Ran a m n (record_fits (deep a d) r y) (record_fits (full a) r y) true
+  module _ (m n l : List ℕ) (w : Entered m n l) where
+    pub entries_done : length l < 2 → Ran a m n (record_fits (deep a d) r y) (record_fits (full a) r y) true
     entries_done h =
-        let e : (f : ℕ → ℕ → Bool) → left f i ≡ true = λ f. rw (entries_end r i h) in
+        let e : (f : ℕ → ℕ → Bool) → left f l ≡ true = λ f. rw (entries_end l h) in
         walk_end (walk_as (e (deep a d)) (e (full a)) w.walk)
 
-    pub entries_odd : i < length r → i + 1 ≡ length r → Ran a m n (record_fits (deep a d) r y) (record_fits (full a) r y) true
-    entries_odd l h =
-        let e : (f : ℕ → ℕ → Bool) → left f i ≡ true = λ f. rw (entries_one r i l h) in
-        walk_end (walk_as (e (deep a d)) (e (full a)) w.walk)
+    module _ (h : 2 ≤ length l) where
+      on : (f : ℕ → ℕ → Bool) → left f l ≡ (on_some false (declared_in (get_or l 0 0) (declareds (items y))) (f (get_or l 1 0)) && left f (take (length l - 2) (drop 2 l)))
+      on f = rw (entries_on l h)
 
-    module _ (u : ℕ) (g : F.Found) (l : i < length r) (h : i + 1 ≡ length r → ⊥) (eu : u ≡ get_or r i 0) (eg : found_in g ≡ declared_by y u) where
-      on : (f : ℕ → ℕ → Bool) (x : ℕ) → x ≡ get_or r (i + 1) 0 → left f i ≡ (on_some false (declared_in u (declareds (items y))) (f x) && left f (i + 2))
-      on f x e = rw (entries_on r i (omega arith), ← eu, ← e)
-
-      pub entries_undeclared : g ≡ F.TheVariants.Undeclared → Ran a m n (record_fits (deep a d) r y) (record_fits (full a) r y) false
+      pub entries_undeclared : none ≡ declared_by y (get_or l 0 0) → Ran a m n (record_fits (deep a d) r y) (record_fits (full a) r y) false
       unfolding declared_by
       entries_undeclared e =
-          let q : declared_in u (declareds (items y)) ≡ none = sym eg ∙ ap found_in e in
-          let p : (f : ℕ → ℕ → Bool) → left f i ≡ false = λ f. on f (get_or r (i + 1) 0) refl ∙ rw q in
+          let p : (f : ℕ → ℕ → Bool) → left f l ≡ false = λ f. on f ∙ rw (← e) in
           walk_no (walk_as (p (deep a d)) (p (full a)) w.walk)
 
-      module _ (o : List ℕ) (x z : ℕ) (b : Bool) (e : g ≡ F.TheVariants.As z) (ex : x ≡ get_or r (i + 1) 0) (q : Ran a n o (deep a d x z) (full a x z) b) where
-        on_as : (f : ℕ → ℕ → Bool) → left f i ≡ (f x z && left f (i + 2))
+      module _ (o : List ℕ) (z : ℕ) (b : Bool) (e : some z ≡ declared_by y (get_or l 0 0)) (q : Ran a n o (deep a d (get_or l 1 0) z) (full a (get_or l 1 0) z) b) where
+        on_as : (f : ℕ → ℕ → Bool) → left f l ≡ (f (get_or l 1 0) z && left f (take (length l - 2) (drop 2 l)))
         unfolding declared_by
-        on_as f =
-            let p : declared_in u (declareds (items y)) ≡ some z = sym eg ∙ ap found_in e in
-            on f x ex ∙ rw p
+        on_as f = on f ∙ rw (← e)
 
-        stepped : Walk a m n (record_fits (deep a d) r y) (record_fits (full a) r y) (deep a d x z && left (deep a d) (i + 2)) (full a x z && left (full a) (i + 2))
+        stepped : Walk a m n (record_fits (deep a d) r y) (record_fits (full a) r y) (deep a d (get_or l 1 0) z && left (deep a d) (take (length l - 2) (drop 2 l))) (full a (get_or l 1 0) z && left (full a) (take (length l - 2) (drop 2 l)))
         stepped = walk_as (on_as (deep a d)) (on_as (full a)) w.walk
 
-        pub entries_more : not b ≡ false → Entered m o (i + 2)
-        entries_more nb = record { walk = walk_on (left (deep a d) (i + 2)) (left (full a) (i + 2)) stepped q nb }
+        pub entries_more : b ≡ true → Entered m o (take (length l - 2) (drop 2 l))
+        entries_more nb = record { walk = walk_on (left (deep a d) (take (length l - 2) (drop 2 l))) (left (full a) (take (length l - 2) (drop 2 l))) stepped q nb }
 
-        pub entries_off : not b ≡ true → Ran a m o (record_fits (deep a d) r y) (record_fits (full a) r y) false
-        entries_off nb = walk_off (left (deep a d) (i + 2)) (left (full a) (i + 2)) stepped q nb
+        pub entries_off : b ≡ false → Ran a m o (record_fits (deep a d) r y) (record_fits (full a) r y) false
+        entries_off nb = walk_off (left (deep a d) (take (length l - 2) (drop 2 l))) (left (full a) (take (length l - 2) (drop 2 l))) stepped q nb
 
 -- ---- `row_fits`
 
@@ -209,42 +205,39 @@ unfolding deep full fits_in
 answered a m n v t true r = record { is = λ s. sym (r.yes_is refl s); known = r.known; rest = r.rest }
 answered a m n v t false r = record { is = λ s. sym (r.no_is refl); known = r.known; rest = r.rest }
 
--- ---- `tags_fit`
+-- ---- `tags_fit`: items l are left
 
 module _ (a r : List ℕ) (y : ℕ) where
-  abbrev tags : ℕ → Bool
-  tags i = all_entries (λ t x. full a x y) (entries_of (drop i r))
+  abbrev tags : List ℕ → Bool
+  tags l = all_entries (λ t x. full a x y) (entries_of l)
 
-  pub record Tagged (m n : List ℕ) (i : ℕ) : Type 0 where
-    pub left : SettledIn a → tags_fit_by (full a) r y ≡ tags i
+  pub record Tagged (m n l : List ℕ) : Type 0 where
+    pub left : SettledIn a → tags_fit_by (full a) r y ≡ tags l
     pub known : Known a n
     pub rest : drop TYPEDEPTHS n ≡ drop TYPEDEPTHS m
 
-  pub tags_start : (m : List ℕ) → Known a m → Tagged m m 1
+  pub tags_start : (m l : List ℕ) → l ≡ items r → Known a m → Tagged m m l
   unfolding tags_fit_by
-  tags_start m k = record { left = λ s. refl; known = k; rest = refl }
+  tags_start m l e k = rw e (record { left = λ s. refl; known = k; rest = refl })
 
-  module _ (m n : List ℕ) (i : ℕ) (w : Tagged m n i) where
-    pub tags_done : length r ≤ i → Answered a m n (tags_fit_by (full a) r y) true
-    tags_done h = record { is = λ s. sym (w.left s ∙ rw (entries_end r i h)); known = w.known; rest = w.rest }
+  module _ (m n l : List ℕ) (w : Tagged m n l) where
+    pub tags_done : length l < 2 → Answered a m n (tags_fit_by (full a) r y) true
+    tags_done h = record { is = λ s. sym (w.left s ∙ rw (entries_end l h)); known = w.known; rest = w.rest }
 
-    pub tags_odd : i < length r → i + 1 ≡ length r → Answered a m n (tags_fit_by (full a) r y) true
-    tags_odd l h = record { is = λ s. sym (w.left s ∙ rw (entries_one r i l h)); known = w.known; rest = w.rest }
+    module _ (o : List ℕ) (b : Bool) (h : 2 ≤ length l) (q : Answered a n o (full a (get_or l 1 0) y) b) where
+      tags_step : tags l ≡ (full a (get_or l 1 0) y && tags (take (length l - 2) (drop 2 l)))
+      tags_step = rw (entries_on l h)
 
-    module _ (o : List ℕ) (x : ℕ) (b : Bool) (l : i < length r) (h : i + 1 ≡ length r → ⊥) (ex : x ≡ get_or r (i + 1) 0) (q : Answered a n o (full a x y) b) where
-      tags_step : tags i ≡ (full a x y && tags (i + 2))
-      tags_step = rw (entries_on r i (omega arith), ← ex)
-
-      pub tags_on : not b ≡ false → Tagged m o (i + 2)
+      pub tags_on : b ≡ true → Tagged m o (take (length l - 2) (drop 2 l))
       tags_on nb = record {
-        left = λ s. let e : full a x y ≡ true = sym (q.is s) ∙ not-false b nb in w.left s ∙ tags_step ∙ rw e;
+        left = λ s. let e : full a (get_or l 1 0) y ≡ true = sym (q.is s) ∙ nb in w.left s ∙ tags_step ∙ rw e;
         known = q.known;
         rest = q.rest ∙ w.rest;
       }
 
-      pub tags_off : not b ≡ true → Answered a m o (tags_fit_by (full a) r y) false
+      pub tags_off : b ≡ false → Answered a m o (tags_fit_by (full a) r y) false
       tags_off nb = record {
-        is = λ s. let e : full a x y ≡ false = sym (q.is s) ∙ not-true b nb in sym (w.left s ∙ tags_step ∙ rw e);
+        is = λ s. let e : full a (get_or l 1 0) y ≡ false = sym (q.is s) ∙ nb in sym (w.left s ∙ tags_step ∙ rw e);
         known = q.known;
         rest = q.rest ∙ w.rest;
       }

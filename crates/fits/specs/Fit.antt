@@ -1,6 +1,7 @@
 -- A value fits a type, over the rows in the lent words: what the search promises, and what it remembers.
-use Rattle.std.specs.Prelude.{◌≡◌, Bool, true, false, cond, ◌&&◌, ◌||◌, not, List, [], ◌∷◌, ℕ, ◌+◌, ◌-◌, ◌*◌, ◌≤◌, max, ltb, eqb, length, get_or, drop}
-use Rattle.std.proofs.Math.Option.{Option, none, some}
+use Rattle.std.specs.Prelude.{◌≡◌, Bool, true, false, cond, ◌&&◌, ◌||◌, not, Option, Some, None, List, [], ◌∷◌, ℕ, ◌+◌, ◌-◌, ◌*◌, ◌≤◌, max, ltb, eqb, length, get_or, drop}
+use Rattle.std.proofs.Math.Option.{none, some}
+use Rattle.std.proofs.Math.Option as Math
 use Rattle.cedar.specs.Value.{on_some}
 use Rattle.cedar.specs.Numbered.{r_bool, mem_n, entry_of, is_some}
 use Rattle.sheet.specs.Forms.{tag, items, VALUE, TYPE}
@@ -9,7 +10,6 @@ use Rattle.sheet.specs.Typing.{declared_in, required_there, all_in, all_entries,
 use Rattle.words.specs.Bits.{member, added}
 use Rattle.forms.specs.Tags.{SET_TYPE, RECORD_TYPE, REQUIRED}
 use Rattle.table.specs.Layout.{rows_of, TYPEDEPTHS}
-use Rattle.fits.specs.declared.Found as F
 
 -- ---- the kinds of an entity type's row
 
@@ -34,33 +34,38 @@ kind_in y k = mem_n k (kinds_in y)
 unfoldable pub has_in : List ℕ → ℕ → Bool
 has_in r t = is_some (entry_of t (entries_of (items r)))
 
--- what record r has from word i on, it has
-pub record Within (r : List ℕ) (i : ℕ) : Type 0 where
-  pub had : (t : ℕ) → is_some (entry_of t (entries_of (drop i r))) ≡ true → has_in r t ≡ true
+-- what stands in items l, record r has
+pub record Within (r l : List ℕ) : Type 0 where
+  pub had : (t : ℕ) → is_some (entry_of t (entries_of l)) ≡ true → has_in r t ≡ true
 
--- where record r goes on after word i: behind its attribute there, where that is t
-unfoldable pub after_in : List ℕ → ℕ → ℕ → ℕ
-after_in r t i = cond (ltb (i + 1) (length r) && eqb t (get_or r i 0)) (i + 2) i
+-- where a record goes on after items l: behind its attribute there, where that is t
+unfoldable pub after_in : List ℕ → ℕ → List ℕ
+after_in l t = cond (ltb 1 (length l) && eqb t (get_or l 0 0)) (drop 2 l) l
 
 -- record r has all attributes that record type y requires
 unfoldable pub complete_in : List ℕ → List ℕ → Bool
 complete_in r y = required_there (declareds (items y)) (has_in r)
 
--- the attribute that row y declares at word i is optional or there
-unfoldable pub met_at : List ℕ → List ℕ → ℕ → Bool
-met_at r y i = not (eqb (get_or y (i + 1) 0) REQUIRED) || has_in r (get_or y i 0)
+-- attribute t is optional or there
+unfoldable pub met : List ℕ → ℕ → ℕ → Bool
+met r t required = not (eqb required REQUIRED) || has_in r t
 
 -- the type that record type y declares for attribute t, and what the answer of a search says
-unfoldable pub declared_by : List ℕ → ℕ → Option ℕ
+unfoldable pub declared_by : List ℕ → ℕ → Math.Option ℕ
 declared_by y t = declared_in t (declareds (items y))
 
--- what record type y declares for the attribute at word i and those above it stands from there on
-pub record Ahead (y : List ℕ) (i : ℕ) : Type 0 where
-  pub left : (t : ℕ) → get_or y i 0 ≤ t → declared_by y t ≡ declared_in t (declareds (drop i y))
+-- what record type y declares for the first attribute of items l and those above it stands in l
+pub record Ahead (y l : List ℕ) : Type 0 where
+  pub left : (t : ℕ) → get_or l 0 0 ≤ t → declared_by y t ≡ declared_in t (declareds l)
 
-abbrev pub found_in : F.Found → Option ℕ
-found_in (F.TheVariants.As y) = some y
-found_in F.TheVariants.Undeclared = none
+-- what items l declare for the first attribute of items m and those above it stands in m
+pub record Sought (l m : List ℕ) : Type 0 where
+  pub low : get_or l 0 0 ≤ get_or m 0 0
+  pub left : (t : ℕ) → get_or m 0 0 ≤ t → declared_in t (declareds l) ≡ declared_in t (declareds m)
+
+abbrev pub found_in : Option ℕ → Math.Option ℕ
+found_in (Some y) = some y
+found_in None = none
 
 unfoldable pub set_fits : (ℕ → ℕ → Bool) → List ℕ → ℕ → Bool
 set_fits f r y = all_in (λ x. f x y) (items r)

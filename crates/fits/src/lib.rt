@@ -3,38 +3,13 @@
 #![tactic(auto)]
 
 ghost use Rattle.std.specs.Prelude.{◌≡◌, ◌+◌, ◌<◌, length};
-ghost use Rattle.fits.specs.Fit.{
-  kinds_end,
-  kind_in,
-  has_in,
-  complete_in,
-  after_in,
-  Within,
-  met_at,
-  Ahead,
-  declared_by,
-  found_in,
-  set_fits,
-  record_fits,
-  tags_fit_by,
-  rows_fit,
-  is_bool_row,
-  Leaf,
-  is_pair,
-  marked,
-  with_pair,
-  deep,
-  full,
-  Known,
-  Ran,
-  Answered,
-};
+ghost use Rattle.fits.specs.Fit.{kinds_in, kind_in, has_in, complete_in, after_in, Within, met, Ahead, Sought, declared_by, found_in, set_fits, record_fits, tags_fit_by, rows_fit, is_bool_row, Leaf, is_pair, marked, with_pair, deep, full, Known, Ran, Answered};
 
 use forms::{
     ENTITY_TYPE, ENTITY_VALUE, LONG_TYPE, LONG_VALUE, RECORD_TYPE, RECORD_VALUE, REQUIRED,
     SET_TYPE, SET_VALUE, STRING_TYPE, TEXT_VALUE, TYPE, VALUE,
 };
-use table::{item, row, tag};
+use table::{item, items, row, tag};
 use words::{add, has};
 
 // A tree is never deeper.
@@ -46,105 +21,74 @@ const DEPTH: u32 = 64;
 fn there(line: &[u32], text: u32) -> bool
     ensures { result ≡ has_in line.now text }
 {
-    let mut i: usize = 1;
-    while i < line.len() {
-        if i + 1 == line.len() {
-            return false;
-        }
-        if text == item(line, i) {
+    let mut rest = items(line);
+    while let [name, _, others @ ..] = rest {
+        if text == *name {
             return true;
         }
-        i += 2;
+        rest = others;
     }
     false
 }
 
-// What a search for a declared attribute finds: its type, or none.
-#[derive(Clone, Copy)]
-pub enum Found {
-    As(u32),
-    Undeclared,
-}
-
-// The type that a record type declares for this attribute.
-pub fn declared(type_row: &[u32], text: u32) -> Found
+// The type that a record type declares for this attribute, if it declares it.
+pub fn declared(type_row: &[u32], text: u32) -> Option<u32>
     ensures { found_in result ≡ declared_by type_row.now text }
 {
-    let mut i: usize = 1;
-    while i < type_row.len() {
-        if type_row.len() - i < 3 {
-            return Found::Undeclared;
+    let mut rest = items(type_row);
+    while let [name, _, ty, others @ ..] = rest {
+        if text == *name {
+            return Some(*ty);
         }
-        if text == item(type_row, i) {
-            return Found::As(item(type_row, i + 2));
-        }
-        i += 3;
+        rest = others;
     }
-    Found::Undeclared
+    None
 }
 
 // Where to look for an attribute, from `place` on: at the first one that is not below it.
-fn seek(type_row: &[u32], text: u32, place: usize) -> usize
-    requires { Ahead type_row.now place }
-    ensures { Ahead type_row.now result }
+fn seek(place: &[u32], text: u32) -> &[u32]
+    ensures { Sought place.now result.now }
 {
-    let mut i = place;
-    while i < type_row.len() {
-        if type_row.len() - i < 3 {
-            return place;
+    let mut rest = place;
+    while let [name, _, _, others @ ..] = rest {
+        if *name >= text {
+            return rest;
         }
-        if item(type_row, i) >= text {
-            return i;
-        }
-        i += 3;
+        rest = others;
     }
     place
 }
 
 // The type that a record type declares for this attribute; it is looked for at `place` first.
-fn declared_at(type_row: &[u32], text: u32, place: usize) -> Found
-    requires { Ahead type_row.now place }
+fn declared_at(type_row: &[u32], text: u32, place: &[u32]) -> Option<u32>
+    requires { Ahead type_row.now place.now }
     ensures { found_in result ≡ declared_by type_row.now text }
 {
-    if place >= type_row.len() {
-        return declared(type_row, text);
+    match place {
+        [name, _, ty, ..] if text == *name => Some(*ty),
+        _ => declared(type_row, text),
     }
-    if type_row.len() - place < 3 {
-        return declared(type_row, text);
-    }
-    if text == item(type_row, place) {
-        return Found::As(item(type_row, place + 2));
-    }
-    declared(type_row, text)
 }
 
 // Where a record goes on after `place`: behind its attribute there, where that is this one.
-fn after(line: &[u32], text: u32, place: usize) -> usize
-    ensures { result ≡ after_in line.now text place }
+fn after(place: &[u32], text: u32) -> &[u32]
+    ensures { result.now ≡ after_in place.now text }
 {
-    if place >= line.len() {
-        return place;
+    match place {
+        [name, _, others @ ..] if text == *name => others,
+        _ => place,
     }
-    if line.len() - place < 2 {
-        return place;
-    }
-    if text == item(line, place) {
-        return place + 2;
-    }
-    place
 }
 
-// Whether the attribute declared at `i` is optional or there; it is looked for at `place` first.
-fn meets(value_row: &[u32], type_row: &[u32], i: usize, place: usize) -> bool
-    requires i_in_bounds { i < length type_row.now }
-    requires within { Within value_row.now place }
-    ensures { result ≡ met_at value_row.now type_row.now i }
+// Whether an attribute is optional or there; it is looked for at `place` first.
+fn meets(value_row: &[u32], place: &[u32], text: u32, required: u32) -> bool
+    requires { Within value_row.now place.now }
+    ensures { result ≡ met value_row.now text required }
 {
-    let text = item(type_row, i);
-    if after(value_row, text, place) > place {
+    if after(place, text).len() < place.len() {
         return true;
     }
-    if item(type_row, i + 1) == REQUIRED {
+    if required == REQUIRED {
         return there(value_row, text);
     }
     true
@@ -154,46 +98,35 @@ fn meets(value_row: &[u32], type_row: &[u32], i: usize, place: usize) -> bool
 pub fn complete(value_row: &[u32], type_row: &[u32]) -> bool
     ensures { result ≡ complete_in value_row.now type_row.now }
 {
-    let mut i: usize = 1;
-    let mut place: usize = 1;
-    while i < type_row.len() {
-        if type_row.len() - i < 3 {
-            return true;
-        }
-        if !meets(value_row, type_row, i, place) {
+    let mut rest = items(type_row);
+    let mut place = items(value_row);
+    while let [text, required, _, others @ ..] = rest {
+        if !meets(value_row, place, *text, *required) {
             return false;
         }
-        place = after(value_row, item(type_row, i), place);
-        i += 3;
+        place = after(place, *text);
+        rest = others;
     }
     true
 }
 
 // ---- the kinds of an entity type
 
-// Where the kinds of a row end that begin at word 1: a row has one at least.
-pub fn kinds_end(type_row: &[u32]) -> usize
-    ensures { result ≡ kinds_end type_row.now }
+// The kinds of an entity type: a row has one at least.
+pub fn kinds(type_row: &[u32]) -> &[u32]
+    ensures { result.now ≡ kinds_in type_row.now }
 {
     if type_row.len() < 2 {
-        return 2;
+        return &[0];
     }
-    type_row.len()
+    &type_row[1..]
 }
 
 // Whether a kind is among those of an entity type.
 pub fn has_kind(type_row: &[u32], kind: u32) -> bool
     ensures { result ≡ kind_in type_row.now kind }
 {
-    let end = kinds_end(type_row);
-    let mut i: usize = 1;
-    while i < end {
-        if kind == item(type_row, i) {
-            return true;
-        }
-        i += 1;
-    }
-    false
+    kinds(type_row).contains(&kind)
 }
 
 // ---- values without parts
@@ -258,19 +191,19 @@ fn mark(work: &mut [u32], value: u32, ty: u32)
 
 // ---- the recursion
 
+// kept: rows and words side by side, and that what is remembered is true asked by each: `value_fits` and `tags_fit` promise it to any caller
+// (docs/DECISIONS.md, `Known`), and a struct of both would have to promise for each call that it keeps the rows and keeps the words lent.
+
 // Whether each element of a set fits a type.
 #[cycle(elements_entries_fits_row_fits)]
 fn elements(rows: &[u32], work: &mut [u32], line: &[u32], ty: u32, depth: u32) -> bool
     requires { Known rows.now work.old }
     ensures { Ran rows.now work.old work.new (set_fits (deep rows.now depth) line.now ty) (set_fits (full rows.now) line.now ty) result }
 {
-    let mut i: usize = 1;
-    while i < line.len() {
-        let x = item(line, i);
+    for &x in items(line) {
         if !fits(rows, work, x, ty, depth) {
             return false;
         }
-        i += 1;
     }
     true
 }
@@ -281,23 +214,17 @@ fn entries(rows: &[u32], work: &mut [u32], value_row: &[u32], type_row: &[u32], 
     requires { Known rows.now work.old }
     ensures { Ran rows.now work.old work.new (record_fits (deep rows.now depth) value_row.now type_row.now) (record_fits (full rows.now) value_row.now type_row.now) result }
 {
-    let mut i: usize = 1;
-    let mut place: usize = 1;
-    while i < value_row.len() {
-        if i + 1 == value_row.len() {
-            return true;
-        }
-        let text = item(value_row, i);
-        place = seek(type_row, text, place);
-        let f = declared_at(type_row, text, place);
-        let Found::As(z) = f else {
+    let mut rest = items(value_row);
+    let mut place = items(type_row);
+    while let [text, x, others @ ..] = rest {
+        place = seek(place, *text);
+        let Some(z) = declared_at(type_row, *text, place) else {
             return false;
         };
-        let x = item(value_row, i + 1);
-        if !fits(rows, work, x, z, depth) {
+        if !fits(rows, work, *x, z, depth) {
             return false;
         }
-        i += 2;
+        rest = others;
     }
     true
 }
@@ -363,16 +290,12 @@ pub fn tags_fit(rows: &[u32], work: &mut [u32], line: &[u32], ty: u32) -> bool
     requires { Known rows.now work.old }
     ensures { Answered rows.now work.old work.new (tags_fit_by (full rows.now) line.now ty) result }
 {
-    let mut i: usize = 1;
-    while i < line.len() {
-        if i + 1 == line.len() {
-            return true;
-        }
-        let x = item(line, i + 1);
-        if !value_fits(rows, work, x, ty) {
+    let mut rest = items(line);
+    while let [_, x, others @ ..] = rest {
+        if !value_fits(rows, work, *x, ty) {
             return false;
         }
-        i += 2;
+        rest = others;
     }
     true
 }

@@ -8,6 +8,7 @@ ghost use Rattle.forms.specs.Keys.{key_row, keyed};
 
 // ---- keys
 
+// kept: keys, and tags and letters below, stand as numbers in the words of the lent slices, where rows are found by them: fixed memory.
 pub const SHEET: usize = 0;
 
 pub const TEXT: usize = 1;
@@ -50,6 +51,7 @@ pub const MADE: usize = RUN + 1;
 
 // ---- what may stand at a place
 
+// kept: a byte for a place, as a whole form is one word in a table that is read for each line of a sheet: fixed memory, and `unpacked` says so.
 // A number below 16 for what refers to no line; 16 and a key for a line of it, 32, 48 and 64 and a key for a line of it or `?`, `-`, `*`.
 
 pub const NONE: u8 = 0;
@@ -269,24 +271,15 @@ pub struct Form {
 }
 
 // A form as one word: a byte for each of its numbers, the first the lowest.
-fn packed(
-    key: usize,
-    items: usize,
-    group: usize,
-    from: usize,
-    first: u8,
-    second: u8,
-    third: u8,
-    fourth: u8,
-) -> u64
-    requires { (key < 256) × (items < 256) × (group < 256) × (from < 256) }
-    ensures { unpacked result ≡ row key items group from first second third fourth }
+fn packed(f: Form) -> u64
+    requires { (f.key < 256) × (f.items < 256) × (f.group < 256) × (f.from < 256) }
+    ensures { unpacked result ≡ f }
 {
-    let counts = key + 0x100 * items + 0x1_0000 * group + 0x100_0000 * from;
-    let slots = first as u64
-        + 0x100 * second as u64
-        + 0x1_0000 * third as u64
-        + 0x100_0000 * fourth as u64;
+    let counts = f.key + 0x100 * f.items + 0x1_0000 * f.group + 0x100_0000 * f.from;
+    let slots = f.first as u64
+        + 0x100 * f.second as u64
+        + 0x1_0000 * f.third as u64
+        + 0x100_0000 * f.fourth as u64;
     counts as u64 + 0x1_0000_0000 * slots
 }
 
@@ -295,7 +288,7 @@ fn plain(key: usize, items: usize, first: u8, second: u8, third: u8, fourth: u8)
     requires { (key < 256) × (items < 256) }
     ensures { unpacked result ≡ row key items 0 FLAT first second third fourth }
 {
-    packed(key, items, 0, FLAT, first, second, third, fourth)
+    with(key, items, 0, first, second, third, fourth)
 }
 
 // One with a group.
@@ -303,7 +296,16 @@ fn with(key: usize, items: usize, group: usize, first: u8, second: u8, third: u8
     requires { (key < 256) × (items < 256) × (group < 256) }
     ensures { unpacked result ≡ row key items group FLAT first second third fourth }
 {
-    packed(key, items, group, FLAT, first, second, third, fourth)
+    packed(Form {
+        key,
+        items,
+        group,
+        from: FLAT,
+        first,
+        second,
+        third,
+        fourth,
+    })
 }
 
 // One whose groups ascend.
@@ -319,7 +321,16 @@ fn rising(
     requires { (key < 256) × (items < 256) × (group < 256) }
     ensures { unpacked result ≡ row key items group items first second third fourth }
 {
-    packed(key, items, group, items, first, second, third, fourth)
+    packed(Form {
+        key,
+        items,
+        group,
+        from: items,
+        first,
+        second,
+        third,
+        fourth,
+    })
 }
 
 // One item or more, all alike, which ascend.
@@ -327,7 +338,16 @@ fn rising_all(key: usize, slot: u8) -> u64
     requires { key < 256 }
     ensures { unpacked result ≡ row key 1 1 0 slot slot NONE NONE }
 {
-    packed(key, 1, 1, 0, slot, slot, NONE, NONE)
+    packed(Form {
+        key,
+        items: 1,
+        group: 1,
+        from: 0,
+        first: slot,
+        second: slot,
+        third: NONE,
+        fourth: NONE,
+    })
 }
 
 // The table. The forms of one key stand together.

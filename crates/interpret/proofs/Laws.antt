@@ -1,13 +1,10 @@
 -- One law for each way through the code. Assumes nothing.
 use mathlib.Core.Path.{◌≡◌, refl, sym, ap, ap₂, ◌∙◌, subst}
-use mathlib.Core.Bool.{Bool, true, false}
+use mathlib.Core.Bool.{Bool}
 use mathlib.Core.List.{List, [], ◌∷◌}
-use Prim.Native.Nat.{ℕ, zero, suc, ◌+◌, ◌-◌, ◌≤◌, ◌<◌}
+use Prim.Native.Nat.{ℕ, zero, suc, ◌-◌, ◌≤◌, ◌<◌}
 use native.Mathlib.Omega.{arith}
 use native.Mathlib.Nat.{le_refl}
-use native.Mathlib.Decide.{dec_le}
-use borrow.Author.Tests.{ne_eqb, le-leb, lt-leb}
-use lib.Dec.{leb}
 use lib.ListN.{length, get_or, take}
 use Rattle.words.specs.Log.{appended, Appended, Room}
 use Rattle.words.proofs.Logs.{append_holds, holds_as, holds_from, log_cut, log_length}
@@ -20,9 +17,9 @@ use Rattle.table.specs.Layout.{rows_of}
 use Rattle.value.specs.Made.{bool_row}
 use Rattle.residual.specs.Rows.{lit_row, err_row, left_row, stage_at}
 use Rattle.residual.specs.Errs.{errs}
-use Rattle.residual.specs.declared.Stage.{Stage}
-use Rattle.residual.specs.declared.Stage.TheVariants.{Value, Error, Open}
-use Rattle.tpe.specs.Run.{O, Rec, left, lit_of, err_of, left_of, made_of, join_of, node_in, Side, stops, goes, wrong, unsure, side_of, class_by, class_of, decided_by, second_by, second_of, first_by, first_of, split_of, branch_by, branch_of, var_for, env_in, lit_step, err_step, var_step, slot_step}
+use Rattle.residual.specs.Logs.{held}
+use Rattle.residual.specs.declared.Log.{Log}
+use Rattle.tpe.specs.Run.{O, Rec, left, lit_of, err_of, left_of, made_of, node_in, Side, stops, goes, wrong, unsure, side_of, class_by, class_of, decided_by, second_by, second_of, first_by, first_of, split_of, branch_by, branch_of, var_for, env_in, lit_step, err_step, var_step, slot_step}
 use Rattle.tpe.specs.Steps.{two_at}
 use Rattle.tpe.specs.Classes.{class_in}
 use Rattle.tpe.specs.Leaves.{Leaves}
@@ -57,78 +54,18 @@ left_leaves a b b' start bt n e y room h p =
     record { words = refl; log = holds_as (holds_from (append_holds room p) h) (ap (λ (j : ℕ). appended (take bt b) (left_row n 0 (j - start) y)) (sym (log_length b bt room))) }
 
 -- the last block of a log, as the code reads it
-last_stage : (b : List ℕ) (bt : ℕ) → Room b bt → stage_at b bt ≡ stage_at (take bt b) (length (take bt b))
+pub last_stage : (b : List ℕ) (bt : ℕ) → Room b bt → stage_at b bt ≡ stage_at (take bt b) (length (take bt b))
 last_stage b bt room = stage_log b bt bt (le_refl bt) ∙ ap (stage_at (take bt b)) (sym (log_length b bt room))
 
--- ---- `side_at`
+pub class_log : (a b : List ℕ) (bt : ℕ) → Room b bt → class_of a (take bt b) ≡ class_by a (stage_at b bt)
+unfolding class_of
+class_log a b bt room = ap (class_by a) (sym (last_stage b bt room))
 
-module _ (a b : List ℕ) (bt : ℕ) (z : Bool) (c : Classᶜ) (room : Room b bt) (ec : class_in c ≡ class_by a (stage_at b bt)) where
-  class_log : class_in c ≡ class_of a (take bt b)
-  unfolding class_of
-  class_log = ec ∙ ap (class_by a) (last_stage b bt room)
+pub class_held : (a : List ℕ) (g : Log) → class_of a (held g) ≡ class_by a (stage_at g.words.now g.top)
+class_held a g = class_log a g.words.now g.top g.room
 
-  by_class : (s : Sideᶜ) (x : Classᶜ) → c ≡ x → side_in s ≡ side_of z (class_in x) → side_in s ≡ side_of z (class_of a (take bt b))
-  by_class s x e h = h ∙ ap (λ (y : Classᶜ). side_of z (class_in y)) (sym e) ∙ ap (side_of z) class_log
-
-  pub side_true_stops : c ≡ True → z ≡ true → side_in Stops ≡ side_of z (class_of a (take bt b))
-  side_true_stops e h = by_class Stops True e (rw h)
-
-  pub side_true_goes : c ≡ True → z ≡ false → side_in Goes ≡ side_of z (class_of a (take bt b))
-  side_true_goes e h = by_class Goes True e (rw h)
-
-  pub side_false_goes : c ≡ False → z ≡ true → side_in Goes ≡ side_of z (class_of a (take bt b))
-  side_false_goes e h = by_class Goes False e (rw h)
-
-  pub side_false_stops : c ≡ False → z ≡ false → side_in Stops ≡ side_of z (class_of a (take bt b))
-  side_false_stops e h = by_class Stops False e (rw h)
-
-  pub side_wrong : c ≡ Errorᶜ → side_in Wrong ≡ side_of z (class_of a (take bt b))
-  side_wrong e = by_class Wrong Errorᶜ e (go z)
-    where
-      go : (y : Bool) → side_in Wrong ≡ side_of y cerror
-      go true = refl
-      go false = refl
-
-  pub side_unsure : c ≡ Openᶜ → side_in Unsure ≡ side_of z (class_of a (take bt b))
-  side_unsure e = by_class Unsure Openᶜ e (go z)
-    where
-      go : (y : Bool) → side_in Unsure ≡ side_of y copen
-      go true = refl
-      go false = refl
-
--- ---- `join`
-
-module _ (b : List ℕ) (bt c : ℕ) (s : Stage) (room : Room b bt) (es : s ≡ stage_at b bt) where
-  by_stage : (x : ℕ) (q : Stage) → s ≡ q → x ≡ join_of c q → x ≡ join_of c (stage_at (take bt b) (length (take bt b)))
-  by_stage x q e h = h ∙ ap (join_of c) (sym e ∙ es ∙ last_stage b bt room)
-
-  pub join_value : (v : ℕ) → s ≡ Value v → c ≡ join_of c (stage_at (take bt b) (length (take bt b)))
-  unfolding join_of
-  join_value v e = by_stage c (Value v) e refl
-
-  pub join_error : s ≡ Error → 1 ≡ join_of c (stage_at (take bt b) (length (take bt b)))
-  unfolding join_of
-  join_error e = by_stage 1 Error e refl
-
-  pub join_open_error : s ≡ Open → c ≡ 1 → 1 ≡ join_of c (stage_at (take bt b) (length (take bt b)))
-  unfolding join_of
-  join_open_error e h = by_stage 1 Open e (rw h)
-
-  pub join_open : s ≡ Open → (c ≡ 1 → ⊥) → 2 ≡ join_of c (stage_at (take bt b) (length (take bt b)))
-  unfolding join_of
-  join_open e h = by_stage 2 Open e (rw (ne_eqb c 1 h))
-
--- ---- `has_more`
-
-pub more_past : (k i s : ℕ) → k < i → false ≡ leb (i + s) k
-more_past k i s h = sym (lt-leb (i + s) k (omega arith))
-
-pub more_here : (k i s : ℕ) → i ≤ k → leb s (k - i) ≡ leb (i + s) k
-more_here k i s h = go (dec_le s (k - i))
-  where
-    go : Dec (s ≤ k - i) → leb s (k - i) ≡ leb (i + s) k
-    go (yes d) = le-leb s (k - i) d ∙ sym (le-leb (i + s) k (omega arith))
-    go (no d) = lt-leb s (k - i) (omega arith) ∙ sym (lt-leb (i + s) k (omega arith))
+pub last_held : (g : Log) → stage_at g.words.now g.top ≡ stage_at (held g) (length (held g))
+last_held g = last_stage g.words.now g.top g.room
 
 -- ---- `leaf`
 
@@ -171,10 +108,10 @@ module _ (a b : List ℕ) (start mid bt n : ℕ) (z : Bool) (y : ℕ) (room : Ro
   unfolding second_by
   beside_stops a' b' e h p = leaves_as p (sym (by_side stops (ap side_in h)))
 
-  pub beside_goes : s ≡ Goes → Leaves start a b mid (second_of z start n y mid (left a (take bt b)))
+  pub beside_goes : (b₁ : List ℕ) (t : ℕ) → s ≡ Goes → b₁ ≡ b → t ≡ mid → Leaves start a b₁ t (second_of z start n y mid (left a (take bt b)))
   unfolding second_by
-  beside_goes h =
-      rw (by_side goes (ap side_in h)) (record { words = refl; log = record { is = sym (log_cut b bt mid order.1); low = omega (arith, room.low, order.1); grows = order.0 } })
+  beside_goes b₁ t h eb et =
+      rw (by_side goes (ap side_in h), eb, et) (record { words = refl; log = record { is = sym (log_cut b bt mid order.1); low = omega (arith, room.low, order.1); grows = order.0 } })
 
   kept : (x : Side) → side_in s ≡ x → second_by z start n y mid (left a (take bt b)) x ≡ left_of a (take bt b) start n 0 y
       → (b' : List ℕ) (e : ℕ) → Appended b bt (left_row n 0 (bt - start) y) b' e → Leaves start a b' e (second_of z start n y mid (left a (take bt b)))
@@ -200,9 +137,9 @@ module _ (f : Rec) (a b : List ℕ) (start bt n : ℕ) (z : Bool) (room : Room b
   unfolding first_by
   first_stops a' b' e h p = rw (by_first stops (ap side_in h), log_cut b bt start below) p
 
-  pub first_goes : (a' b' : List ℕ) (e : ℕ) → s ≡ Goes → Leaves start a' b' e (f a (take start b) x) → Leaves start a' b' e (first_in z f start n (left a (take bt b)))
+  pub first_goes : (b₁ : List ℕ) (t : ℕ) (a' b' : List ℕ) (e : ℕ) → s ≡ Goes → b₁ ≡ b → t ≡ start → Leaves t a' b' e (f a (take t b₁) x) → Leaves start a' b' e (first_in z f start n (left a (take bt b)))
   unfolding first_by
-  first_goes a' b' e h p = rw (by_first goes (ap side_in h), log_cut b bt start below) p
+  first_goes b₁ t a' b' e h eb et p = rw (by_first goes (ap side_in h), log_cut b bt start below) (rw (eb, et) at p)
 
   pub first_wrong : (b' : List ℕ) (e : ℕ) → s ≡ Wrong → Appended b start (err_row y) b' e → Leaves start a b' e (first_in z f start n (left a (take bt b)))
   unfolding first_by
@@ -213,10 +150,6 @@ module _ (f : Rec) (a b : List ℕ) (start bt n : ℕ) (z : Bool) (room : Room b
   first_unsure a' b' e h p = rw (by_first unsure (ap side_in h), log_length b bt room) p
 
 -- ---- `second`, `pair`
-
-pub second_is : (a₁ b₁ : List ℕ) (mid p : ℕ) (o : O) → Leaves mid a₁ b₁ p o → (a₂ b₂ : List ℕ) (start n e : ℕ) (z : Bool) (y : ℕ) → Leaves start a₂ b₂ e (second_of z start n y mid (left a₁ (take p b₁)))
-    → Leaves start a₂ b₂ e (second_of z start n y mid o)
-second_is a₁ b₁ mid p o h a₂ b₂ start n e z y q = leaves_as q (ap (second_of z start n y mid) (view h))
 
 pub pair_is : (sheet : List ℕ) (f : Rec) (a b : List ℕ) (start mid n t : ℕ) → Room b mid → (r : List ℕ) → r ≡ get_or (rows_of a NODE) n [] → (x : ℕ) → x ≡ get_or r 3 0 → (a₁ b₁ : List ℕ) (p : ℕ) → Leaves mid a₁ b₁ p (f a (take mid b) x)
     → (a₂ b₂ : List ℕ) (e : ℕ) → Leaves start a₂ b₂ e (two_at partial [] t start mid n (get_or (rows_of a₁ NODE) n []) (left a₁ (take p b₁))) → Leaves start a₂ b₂ e (pair_in partial sheet t f start n (left a (take mid b)))
@@ -230,15 +163,15 @@ module _ (f : Rec) (a b : List ℕ) (start bt n : ℕ) (room : Room b bt) (below
     (y x w : ℕ) (ey : y ≡ get_or r 1 0) (ex : x ≡ get_or r 3 0) (ew : w ≡ get_or r 4 0) (c : Classᶜ) (ec : class_in c ≡ class_by a (stage_at b bt)) where
   by_branch : (q : Class) → class_in c ≡ q → branch_in f start n (left a (take bt b)) ≡ branch_by f start n y x w (left a (take bt b)) q
   unfolding branch_in branch_of
-  by_branch q e = rw (← er, ← ey, ← ex, ← ew) (ap (branch_by f start n y x w (left a (take bt b))) (sym (class_log a b bt true c room ec) ∙ e))
+  by_branch q e = rw (← er, ← ey, ← ex, ← ew) (ap (branch_by f start n y x w (left a (take bt b))) (sym (ec ∙ sym (class_log a b bt room)) ∙ e))
 
-  pub branch_true : (a' b' : List ℕ) (e : ℕ) → c ≡ True → Leaves start a' b' e (f a (take start b) x) → Leaves start a' b' e (branch_in f start n (left a (take bt b)))
+  pub branch_true : (b₁ : List ℕ) (t : ℕ) (a' b' : List ℕ) (e : ℕ) → c ≡ True → b₁ ≡ b → t ≡ start → Leaves t a' b' e (f a (take t b₁) x) → Leaves start a' b' e (branch_in f start n (left a (take bt b)))
   unfolding branch_by
-  branch_true a' b' e h p = rw (by_branch ctrue (ap class_in h), log_cut b bt start below) p
+  branch_true b₁ t a' b' e h eb et p = rw (by_branch ctrue (ap class_in h), log_cut b bt start below) (rw (eb, et) at p)
 
-  pub branch_false : (a' b' : List ℕ) (e : ℕ) → c ≡ False → Leaves start a' b' e (f a (take start b) w) → Leaves start a' b' e (branch_in f start n (left a (take bt b)))
+  pub branch_false : (b₁ : List ℕ) (t : ℕ) (a' b' : List ℕ) (e : ℕ) → c ≡ False → b₁ ≡ b → t ≡ start → Leaves t a' b' e (f a (take t b₁) w) → Leaves start a' b' e (branch_in f start n (left a (take bt b)))
   unfolding branch_by
-  branch_false a' b' e h p = rw (by_branch cfalse (ap class_in h), log_cut b bt start below) p
+  branch_false b₁ t a' b' e h eb et p = rw (by_branch cfalse (ap class_in h), log_cut b bt start below) (rw (eb, et) at p)
 
   pub branch_error : (b' : List ℕ) (e : ℕ) → c ≡ Errorᶜ → Appended b start (err_row y) b' e → Leaves start a b' e (branch_in f start n (left a (take bt b)))
   unfolding branch_by
@@ -248,11 +181,10 @@ module _ (f : Rec) (a b : List ℕ) (start bt n : ℕ) (room : Room b bt) (below
   unfolding branch_by
   branch_open a' b' e h p = rw (by_branch copen (ap class_in h)) p
 
-pub split_is : (f : Rec) (b a₁ b₁ a₂ b₂ b₃ : List ℕ) (start bt p q n y w e : ℕ) (o : O) → Room b bt → start ≤ bt → Leaves bt a₁ b₁ p o → length b₁ ≡ length b → Leaves p a₂ b₂ q (f a₁ (take p b₁) w) → length b₂ ≡ length b₁
+pub split_is : (f : Rec) (a₁ b₁ a₂ b₂ b₃ : List ℕ) (start bt p q n y w e : ℕ) (o : O) → start ≤ bt → Leaves bt a₁ b₁ p o → Leaves p a₂ b₂ q (f a₁ (take p b₁) w) → Room b₂ q
     → Appended b₂ q (left_row n 0 (q - start) y) b₃ e → Leaves start a₂ b₃ e (split_of f start n y w o)
 unfolding split_of
-split_is f b a₁ b₁ a₂ b₂ b₃ start bt p q n y w e o room below h l g k r =
-    let ro : Room b₂ q = record { low = g.log.low; long = omega (arith, room.long, l, k) } in
+split_is f a₁ b₁ a₂ b₂ b₃ start bt p q n y w e o below h g room r =
     let up : start ≤ q = omega (arith, below, h.log.grows, g.log.grows) in
     let v : left a₂ (take q b₂) ≡ f o.words o.log w = view g ∙ ap (λ (x : O). f x.words x.log w) (view h) in
-    leaves_as (left_leaves a₂ b₂ b₃ start q n e y ro up r) (ap (λ (x : O). left_of x.words x.log start n 0 y) v)
+    leaves_as (left_leaves a₂ b₂ b₃ start q n e y room up r) (ap (λ (x : O). left_of x.words x.log start n 0 y) v)

@@ -1,12 +1,10 @@
 -- One law for each way through the cycle of calls where the step goes by a node's tag, and for the loops. Assumes nothing.
 use mathlib.Core.Path.{◌≡◌, refl, sym, ap, ◌∙◌}
-use mathlib.Core.Bool.{Bool, true, false}
 use mathlib.Core.List.{List, []}
-use Prim.Native.Nat.{ℕ, suc, ◌+◌, ◌-◌, ◌/◌, ◌≤◌, ◌<◌}
+use Prim.Native.Nat.{ℕ, suc, ◌+◌, ◌-◌, ◌*◌, ◌/◌, ◌≤◌, ◌<◌}
 use native.Mathlib.Omega.{arith}
-use native.Mathlib.Nat.{le_refl, div-eq_of_lt, div-eq-sub-div}
-use borrow.Author.Tests.{leb-true, leb-false}
-use lib.Dec.{eqb, leb}
+use native.Mathlib.Nat.{le_refl}
+use lib.Dec.{eqb}
 use lib.ListN.{length, get_or, take}
 use Rattle.words.specs.Log.{Appended, Room}
 use Rattle.words.proofs.Logs.{append_holds, log_length}
@@ -74,46 +72,45 @@ module _ (sheet : List ℕ) (u w : ℕ) (a b a' b' : List ℕ) (bt n d e : ℕ) 
 
 -- ---- `group`
 
--- what is left of the children gives all of them
+-- of k children i are worked, and what is left of them gives all of them
 pub record Turning (f : Rec) (n s bt k : ℕ) (a₀ b₀ a b : List ℕ) (p c i : ℕ) : Type 0 where
-  pub whole : kids_of f n s i a (take p b) c ((k - i) / s) ≡ kids_of f n s 2 a₀ (take bt b₀) 0 ((k - 2) / s)
+  pub whole : kids_of f n s (i * s + 2) a (take p b) c (k - i) ≡ kids_of f n s 2 a₀ (take bt b₀) 0 k
   pub room : Room b p
   pub grows : bt ≤ p
 
-pub turn_start : (f : Rec) (n s bt k : ℕ) (a b : List ℕ) → Room b bt → Turning f n s bt k a b a b bt 0 2
-turn_start f n s bt k a b room = record { whole = refl; room = room; grows = le_refl bt }
+pub turn_start : (f : Rec) (n s bt k : ℕ) (a b : List ℕ) → Room b bt → Turning f n s bt k a b a b bt 0 0
+turn_start f n s bt k a b room =
+    let e : 0 * s + 2 ≡ 2 = omega arith in
+    let z : k - 0 ≡ k = omega arith in
+    record { whole = rw (e, z); room = room; grows = le_refl bt }
 
-module _ (f : Rec) (n s bt k : ℕ) (a₀ b₀ a b : List ℕ) (p c i : ℕ) (g : Turning f n s bt k a₀ b₀ a b p c i) (pos : 0 < s) (m : Bool) (em : m ≡ leb (i + s) k) where
-  pub turn_fits : m ≡ true → i + s ≤ k
-  turn_fits h = leb-true (i + s) k (sym em ∙ h)
-
-  pub turn_on : (r : List ℕ) (x : ℕ) (a₁ b₁ : List ℕ) (p₁ c₁ : ℕ) → m ≡ true → r ≡ get_or (rows_of a NODE) n [] → x ≡ get_or r (i + s - 1) 0 → Leaves p a₁ b₁ p₁ (f a (take p b) x) → length b₁ ≡ length b
-      → c₁ ≡ join_of c (stage_at (take p₁ b₁) (length (take p₁ b₁))) → Turning f n s bt k a₀ b₀ a₁ b₁ p₁ c₁ (i + s)
+module _ (f : Rec) (n s bt k : ℕ) (a₀ b₀ a b : List ℕ) (p c i : ℕ) (g : Turning f n s bt k a₀ b₀ a b p c i) where
+  pub turn_on : (r : List ℕ) (x : ℕ) (a₁ b₁ : List ℕ) (p₁ c₁ : ℕ) → i < k → r ≡ get_or (rows_of a NODE) n [] → x ≡ get_or r ((i + 1) * s + 1) 0 → Leaves p a₁ b₁ p₁ (f a (take p b) x) → Room b₁ p₁
+      → c₁ ≡ join_of c (stage_at (take p₁ b₁) (length (take p₁ b₁))) → Turning f n s bt k a₀ b₀ a₁ b₁ p₁ c₁ (i + 1)
   unfolding kids_of
-  turn_on r x a₁ b₁ p₁ c₁ h er ex l lb ec =
-      let up : i + s ≤ k = turn_fits h in
-      let less : (k - i) / s ≡ suc ((k - (i + s)) / s) =
-      let z : k - i - s ≡ k - (i + s) = omega arith in
-      div-eq-sub-div {m = s} {n = k - i} pos (omega arith) ∙ ap (λ (j : ℕ). j / s + 1) z ∙ omega arith in
-      let v : left a₁ (take p₁ b₁) ≡ f a (take p b) (get_or (node_in a n) (i + s - 1) 0) = view l ∙ ap (f a (take p b)) (ex ∙ ap (λ (q : List ℕ). get_or q (i + s - 1) 0) er) in
+  turn_on r x a₁ b₁ p₁ c₁ h er ex l room ec =
+      let less : k - i ≡ suc (k - (i + 1)) = omega arith in
+      let place : (i + 1) * s + 1 ≡ i * s + 2 + s - 1 = omega arith in
+      let next : i * s + 2 + s ≡ (i + 1) * s + 2 = omega arith in
+      let v : left a₁ (take p₁ b₁) ≡ f a (take p b) (get_or (node_in a n) (i * s + 2 + s - 1) 0) = view l ∙ ap (f a (take p b)) (ex ∙ ap (λ (j : ℕ). get_or r j 0) place ∙ ap (λ (q : List ℕ). get_or q (i * s + 2 + s - 1) 0) er) in
       record {
         whole =
-            sym (ap (kids_of f n s i a (take p b) c) less
-            ∙ ap (λ (o : O). kids_of f n s (i + s) o.words o.log (join_of c (stage_at o.log (length o.log))) ((k - (i + s)) / s)) (sym v)
-            ∙ ap (λ (j : ℕ). kids_of f n s (i + s) a₁ (take p₁ b₁) j ((k - (i + s)) / s)) (sym ec))
+            sym (ap (kids_of f n s (i * s + 2) a (take p b) c) less
+            ∙ ap (λ (o : O). kids_of f n s (i * s + 2 + s) o.words o.log (join_of c (stage_at o.log (length o.log))) (k - (i + 1))) (sym v)
+            ∙ ap (λ (j : ℕ). kids_of f n s (i * s + 2 + s) a₁ (take p₁ b₁) j (k - (i + 1))) (sym ec)
+            ∙ ap (λ (j : ℕ). kids_of f n s j a₁ (take p₁ b₁) c₁ (k - (i + 1))) next)
             ∙ g.whole;
-        room = record { low = l.log.low; long = omega (arith, lb, g.room.long) };
+        room = room;
         grows = omega (arith, g.grows, l.log.grows);
       }
 
-  pub turn_end : (sheet a' b' r : List ℕ) (t e : ℕ) → m ≡ false → r ≡ get_or (rows_of a₀ NODE) n [] → k ≡ length r → Room b₀ bt
+  pub turn_end : (sheet a' b' r : List ℕ) (t e w : ℕ) → k ≤ i → r ≡ get_or (rows_of a₀ NODE) n [] → w ≡ length r - 2 → k ≡ w / s → Room b₀ bt
       → Leaves bt a' b' e (many_at partial [] t bt n (get_or (rows_of a NODE) n []) (record { words = a; log = take p b; join = c })) → Leaves bt a' b' e (group_of partial sheet t s f a₀ (take bt b₀) n)
   unfolding group_of kids_of many_at set_of rec_of
-  turn_end sheet a' b' r t e h er ek room q =
-      let over : k < i + s = leb-false (i + s) k (sym em ∙ h) in
-      let none : (k - i) / s ≡ 0 = div-eq_of_lt (omega arith) in
+  turn_end sheet a' b' r t e w h er ew ek room q =
+      let none : k - i ≡ 0 = omega arith in
       let all : record { words = a; log = take p b; join = c } ≡ kids_of f n s 2 a₀ (take bt b₀) 0 ((length (node_in a₀ n) - 2) / s) =
-      ap (kids_of f n s i a (take p b) c) (sym none) ∙ g.whole ∙ ap (λ (j : ℕ). kids_of f n s 2 a₀ (take bt b₀) 0 ((j - 2) / s)) (ek ∙ ap length er) in
+      ap (kids_of f n s (i * s + 2) a (take p b) c) (sym none) ∙ g.whole ∙ ap (kids_of f n s 2 a₀ (take bt b₀) 0) (ek ∙ ap (λ (j : ℕ). j / s) (ew ∙ ap (λ (l : List ℕ). length l - 2) er)) in
       leaves_as q
       (ap (λ (x : Kids). many_at partial sheet t bt n (node_in x.words n) x) all
       ∙ ap (λ (j : ℕ). let x = kids_of f n s 2 a₀ (take bt b₀) 0 ((length (node_in a₀ n) - 2) / s) in many_at partial sheet t j n (node_in x.words n) x) (sym (log_length b₀ bt room)))
@@ -125,9 +122,6 @@ pub record Running (sheet : List ℕ) (n : ℕ) (a₀ a b : List ℕ) (p i : ℕ
   pub whole : ended (ran_from (λ u w. interp_of partial sheet u w 64) i (n - i) a (take p b)) ≡ ended (ran_from (λ u w. interp_of partial sheet u w 64) 0 n a₀ [])
   pub room : Room b p
 
-pub run_start : (sheet : List ℕ) (n : ℕ) (a b : List ℕ) → 16384 ≤ length b → Running sheet n a a b 0 0
-run_start sheet n a b h = let e : n - 0 ≡ n = omega arith in record { whole = rw e; room = record { low = omega arith; long = h } }
-
 module _ (sheet : List ℕ) (n : ℕ) (a₀ a b : List ℕ) (p i : ℕ) (g : Running sheet n a₀ a b p i) where
   abbrev f : ℕ → ℕ → Rec
   f u w = interp_of partial sheet u w 64
@@ -135,10 +129,10 @@ module _ (sheet : List ℕ) (n : ℕ) (a₀ a b : List ℕ) (p i : ℕ) (g : Run
   abbrev policy : List ℕ
   policy = get_or (rows_of a RUN) i []
 
-  pub run_on : (r : List ℕ) (x u w : ℕ) (a₁ b₁ : List ℕ) (p₁ : ℕ) → i < n → r ≡ get_or (rows_of a RUN) i [] → x ≡ get_or r 3 0 → u ≡ get_or r 4 0 → w ≡ get_or r 5 0
-      → Leaves p a₁ b₁ p₁ (interp_of partial sheet u w 64 a (take p b) x) → length b₁ ≡ length b → Running sheet n a₀ a₁ b₁ p₁ (i + 1)
+  pub run_on : (r : List ℕ) (x u w : ℕ) (a₁ b₁ : List ℕ) (p₁ m : ℕ) → i < m → m ≡ n → r ≡ get_or (rows_of a RUN) i [] → x ≡ get_or r 3 0 → u ≡ get_or r 4 0 → w ≡ get_or r 5 0
+      → Leaves p a₁ b₁ p₁ (interp_of partial sheet u w 64 a (take p b) x) → Room b₁ p₁ → Running sheet n a₀ a₁ b₁ p₁ (i + 1)
   unfolding ran_from
-  run_on r x u w a₁ b₁ p₁ lt er ex eu ew l lb =
+  run_on r x u w a₁ b₁ p₁ m lt em er ex eu ew l room =
       let less : n - i ≡ suc (n - (i + 1)) = omega arith in
       let next : suc i ≡ i + 1 = omega arith in
       let root : x ≡ at policy 2 = ex ∙ ap (λ (q : List ℕ). get_or q 3 0) er in
@@ -150,13 +144,13 @@ module _ (sheet : List ℕ) (n : ℕ) (a₀ a b : List ℕ) (p i : ℕ) (g : Run
         whole =
             sym (ap (λ (k : ℕ). ended (ran_from f i k a (take p b))) less ∙ ap (λ (o : O). ended (ran_from f (suc i) (n - (i + 1)) o.words o.log)) (sym v) ∙ ap (λ (j : ℕ). ended (ran_from f j (n - (i + 1)) a₁ (take p₁ b₁))) next)
             ∙ g.whole;
-        room = record { low = l.log.low; long = omega (arith, lb, g.room.long) };
+        room = room;
       }
 
-pub run_end : (sheet : List ℕ) (n : ℕ) (a₀ a b : List ℕ) (p i : ℕ) → Running sheet n a₀ a b p i → n ≤ i → n ≡ get_or a₀ RUN 0 → Leaves 0 a b p (ended (run_of partial sheet a₀ []))
+pub run_end : (sheet a₀ a b : List ℕ) (p i m : ℕ) → Running sheet (get_or a₀ RUN 0) a₀ a b p i → m ≤ i → m ≡ get_or a₀ RUN 0 → Leaves 0 a b p (ended (run_of partial sheet a₀ []))
 unfolding run_of ran_from
-run_end sheet n a₀ a b p i g h e =
-    let none : n - i ≡ 0 = omega arith in
+run_end sheet a₀ a b p i m g h e =
+    let none : get_or a₀ RUN 0 - i ≡ 0 = omega arith in
     let all : left a (take p b) ≡ ended (ran_from (λ u w. interp_of partial sheet u w 64) 0 (get_or a₀ RUN 0) a₀ []) =
-    ap (λ (k : ℕ). ended (ran_from (λ u w. interp_of partial sheet u w 64) i k a (take p b))) (sym none) ∙ g.whole ∙ ap (λ (k : ℕ). ended (ran_from (λ u w. interp_of partial sheet u w 64) 0 k a₀ [])) e in
+    ap (λ (k : ℕ). ended (ran_from (λ u w. interp_of partial sheet u w 64) i k a (take p b))) (sym none) ∙ g.whole in
     record { words = ap (λ (o : O). o.words) all; log = record { is = ap (λ (o : O). o.log) all; low = g.room.low; grows = omega arith } }

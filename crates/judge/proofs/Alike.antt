@@ -9,6 +9,7 @@ use borrow.Author.Tests.{eq-eqb, ne_eqb, le-ltb}
 use lib.Dec.{leb, ltb, eqb}
 use lib.ListN.{length, get_or, take, drop, set, get_or-eq_default}
 use Rattle.cedar.specs.Numbered.{mem_n}
+use Rattle.std.specs.Prelude.{Option, Some, None}
 use Rattle.sheet.specs.Forms.{Slot, entry, line, line_or, line_unknown, word, number, day, nothing, forms, form_of, slot_at, tag, items, at, key_of, refs_from, refs, ascendings, mark, TEXT, KIND, TYPE, SHAPE, VALUE, ENTITY, POLICY, LINK, TERM, no_key}
 use Rattle.sheet.specs.State.{State, empty, lines_of, count, depths_of, type_row}
 use Rattle.sheet.specs.Typing.{nodes_under, on_entity}
@@ -149,10 +150,10 @@ depth_alike sheet a b k r e =
 
 -- ---- `depth_of`
 
-pub new_other : (sheet a b : List ℕ) (k : ℕ) (r : List ℕ) (d : ℕ) → k ≡ key_of r → (k ≡ TEXT → ⊥) → d ≡ cond (found (held [] a []) k r) (depth (held [] a b) k r) 0 → NewDepth sheet a b r k d
+pub new_other : (sheet a b : List ℕ) (k : ℕ) (r : List ℕ) (d : Option ℕ) → k ≡ key_of r → (k ≡ TEXT → ⊥) → d ≡ cond (found (held [] a []) k r) (Some (depth (held [] a b) k r)) None → NewDepth sheet a b r k d
 new_other sheet a b k r d e n h =
     let row : row_in sheet k r ≡ r = rw (ne_eqb k TEXT n) refl in
-    record { is = h ∙ ap₂ (λ (x : Bool) (y : ℕ). cond x y 0) (found_alike a sheet b k r n ∙ ap (found (held sheet a b) k) (sym row)) (depth_alike sheet a b k r e) }
+    record { is = h ∙ ap₂ (λ (x : Bool) (y : ℕ). cond x (Some y) None) (found_alike a sheet b k r n ∙ ap (found (held sheet a b) k) (sym row)) (depth_alike sheet a b k r e) }
 
 module _ (sheet a b : List ℕ) (k : ℕ) (r : List ℕ) (e : k ≡ key_of r) (d : k ≡ TEXT) where
   text_depth : depth (held sheet a b) k (row_in sheet k r) ≡ 1
@@ -169,16 +170,16 @@ module _ (sheet a b : List ℕ) (k : ℕ) (r : List ℕ) (e : k ≡ key_of r) (d
         let row : row_in sheet k r ≡ TEXT_LINE ∷ x = rw (eq-eqb k TEXT d, t, hx, hs, hn) refl in
         ap (found (held sheet a b) k) row ∙ rw (d, text_there (held sheet a b) 0 x) (ap not (ap (among (TEXT_LINE ∷ x)) (texts_held sheet a b) ∙ sym hv))
 
-    pub text_again : v ≡ true → NewDepth sheet a b r k 0
+    pub text_again : v ≡ true → NewDepth sheet a b r k None
     text_again q = record { is = sym (rw (text_found, q) refl) }
 
-    pub text_new : v ≡ false → NewDepth sheet a b r k 1
-    text_new q = record { is = sym (rw (text_found, q) text_depth) }
+    pub text_new : v ≡ false → NewDepth sheet a b r k (Some 1)
+    text_new q = record { is = sym (rw (text_found, q) (ap (λ (x : ℕ). Some x) text_depth)) }
 
 -- ---- rows that are new
 
 module _ (sheet a b r : List ℕ) (k : ℕ) (e : k ≡ key_of r) (new : Bool) (u : Unlike (row_in sheet (key_of r) r) (lines_of (held sheet a b) (key_of r)) new) where
-  pub text_sure : k ≡ TEXT → new ≡ true → NewDepth sheet a b r k 1
+  pub text_sure : k ≡ TEXT → new ≡ true → NewDepth sheet a b r k (Some 1)
   text_sure d q =
       let t : tag r ≡ TEXT_LINE = text_tag r (sym e ∙ d) in
       let row : row_in sheet (key_of r) r ≡ TEXT_LINE ∷ part sheet (get_or r 1 0) (get_or r 1 0 + get_or r 2 0) = rw (eq-eqb (key_of r) TEXT (sym e ∙ d), t) refl in

@@ -2,19 +2,21 @@
 use mathlib.Core.Path.{◌≡◌, refl, sym, ap, ap₂, subst, ◌∙◌}
 use mathlib.Core.Bool.{Bool, true, false, cond, not, ◌||◌}
 use mathlib.Core.List.{List, [], ◌∷◌, ◌++◌, append-nil}
-use Prim.Native.Nat.{ℕ, suc, ◌+◌, ◌-◌, ◌≤◌, ◌<◌}
+use Prim.Native.Nat.{ℕ, ◌+◌, ◌-◌, ◌≤◌, ◌<◌}
 use native.Mathlib.Omega.{arith}
 use native.Mathlib.Decide.{ℕ_discrete, dec_lt}
 use borrow.Author.Tests.{ne_eqb, ltb-false, leb-false, not-true, not-false}
 use lib.Dec.{leb, ltb}
 use lib.ListN.{length, get_or, take, drop, drop_of_length-le, get_or-eq_default}
 use lib.Seq.{drop-drop, length-take-le, take_all}
+use Rattle.std.specs.Prelude.{Option, Some, None}
+use Rattle.std.proofs.lemmas.Option.{none-some, cond_some}
 use Rattle.words.specs.Log.{room}
 use Rattle.words.proofs.Stores.{get_d_below, part_below}
 use Rattle.sheet.specs.Forms.{form_of, first_node, tag, key_of, refs, TEXT, ENTITY, NODE, no_key}
 use Rattle.sheet.specs.State.{State, lines_of, count}
 use Rattle.sheet.specs.Typing.{typed}
-use Rattle.sheet.specs.Sheet.{greatest, overused, in_order, too_many, found, deepest, depth, used_twice, marked, fault_of}
+use Rattle.sheet.specs.Sheet.{greatest, overused, in_order, too_many, found, depth, used_twice, marked, fault_of}
 use Rattle.table.specs.Layout.{TYPEDEPTHS, USES, depths_at, held, row_in}
 use Rattle.table.proofs.Rows.{key_low}
 use Rattle.table.proofs.Held.{used_of, depths_kept}
@@ -59,15 +61,6 @@ module _ (s : State) (k : ℕ) (r : List ℕ) where
             fault_none : used_twice s.used (refs NODE r) ≡ false → fault_of s k r ≡ 0
             fault_none e = rw (o, u, n, d, y, e) refl
 
--- a depth is at least 1
-none_found : (s : State) (k : ℕ) (r : List ℕ) → 0 ≡ cond (found s k r) (depth s k r) 0 → found s k r ≡ false
-unfolding depth
-none_found s k r e = go (found s k r) e
-  where
-    go : (t : Bool) → 0 ≡ cond t (suc (deepest s k (refs k r))) 0 → t ≡ false
-    go true e = absurd (omega arith)
-    go false e = refl
-
 -- ---- what is remembered of pairs stands in the first words
 
 known_below : (a m m' : List ℕ) → take USES m' ≡ take USES m → Known a m → Known a m'
@@ -106,7 +99,7 @@ typed_late a b b' r k v t h =
 pub typed_node : (a b b' r : List ℕ) (v : Bool) → Answered a b b' (node_rule a r (tag r - first_node)) v → TypedLine a b b' r NODE v
 typed_node a b b' r v q = typed_late a b b' r NODE v (typed_is a b b' r NODE v (line_node a r NODE b b' v refl q)) (omega arith)
 
-pub depth_node : (sheet a b r : List ℕ) (d : ℕ) → key_of r ≡ NODE → d ≡ cond (found (held [] a []) NODE r) (depth (held [] a b) NODE r) 0 → NewDepth sheet a b r NODE d
+pub depth_node : (sheet a b r : List ℕ) (d : Option ℕ) → key_of r ≡ NODE → d ≡ cond (found (held [] a []) NODE r) (Some (depth (held [] a b) NODE r)) None → NewDepth sheet a b r NODE d
 depth_node sheet a b r d e = new_other sheet a b NODE r d (sym e) (λ q. absurd (omega arith))
 
 module _ (a b r b' : List ℕ) (v : Bool) where
@@ -216,25 +209,28 @@ module _ (sheet rows work r : List ℕ) (long_a : length rows ≡ room) (long_b 
       pub judged_4 : u ≡ true → (f n d : ℕ) → f ≡ 4 → Judged sheet rows work r (take room work ++ drop room work) f n d
       judged_4 h f n d e = stop f n d (λ q. absurd (omega arith)) (fault_many (held sheet a b) (key_of r) (row_in sheet (key_of r) r) ordered (sym many_is ∙ h) ∙ sym e)
 
-      module _ (pu : u ≡ false) (g : ℕ) (hg : NewDepth sheet a b r k g) where
-        depth_is : g ≡ cond (found (held sheet a b) (key_of r) (row_in sheet (key_of r) r)) (depth (held sheet a b) (key_of r) (row_in sheet (key_of r) r)) 0
-        depth_is = hg.is ∙ ap (λ (x : ℕ). cond (found (held sheet a b) x (row_in sheet x r)) (depth (held sheet a b) x (row_in sheet x r)) 0) key_is
+      module _ (pu : u ≡ false) where
+        depth_is : (o : Option ℕ) → NewDepth sheet a b r k o → o ≡ cond (found (held sheet a b) (key_of r) (row_in sheet (key_of r) r)) (Some (depth (held sheet a b) (key_of r) (row_in sheet (key_of r) r))) None
+        depth_is o h = h.is ∙ ap (λ (x : ℕ). cond (found (held sheet a b) x (row_in sheet x r)) (Some (depth (held sheet a b) x (row_in sheet x r))) None) key_is
 
-        pub judged_5 : g ≡ 0 → (f n d : ℕ) → f ≡ 5 → Judged sheet rows work r (take room work ++ drop room work) f n d
+        pub judged_5 : NewDepth sheet a b r k None → (f n d : ℕ) → f ≡ 5 → Judged sheet rows work r (take room work ++ drop room work) f n d
         judged_5 h f n d e =
             stop f n d (λ q. absurd (omega arith))
-            (fault_found (held sheet a b) (key_of r) (row_in sheet (key_of r) r) ordered (sym many_is ∙ pu) (none_found (held sheet a b) (key_of r) (row_in sheet (key_of r) r) (sym h ∙ depth_is)) ∙ sym e)
+            (fault_found (held sheet a b) (key_of r) (row_in sheet (key_of r) r) ordered (sym many_is ∙ pu) (go (found (held sheet a b) (key_of r) (row_in sheet (key_of r) r)) (depth_is None h)) ∙ sym e)
+          where
+            go : (t : Bool) → None ≡ cond t (Some (depth (held sheet a b) (key_of r) (row_in sheet (key_of r) r))) None → t ≡ false
+            go true q = absurd (none-some _ q)
+            go false q = refl
 
-        module _ (pw : g ≡ 0 → ⊥) where
+        module _ (g : ℕ) (hg : NewDepth sheet a b r k (Some g)) where
+          there : (found (held sheet a b) (key_of r) (row_in sheet (key_of r) r) ≡ true) × (depth (held sheet a b) (key_of r) (row_in sheet (key_of r) r) ≡ g)
+          there = cond_some _ _ g (sym (depth_is (Some g) hg))
+
           found_is : found (held sheet a b) (key_of r) (row_in sheet (key_of r) r) ≡ true
-          found_is = go (found (held sheet a b) (key_of r) (row_in sheet (key_of r) r)) depth_is
-            where
-              go : (t : Bool) → g ≡ cond t (depth (held sheet a b) (key_of r) (row_in sheet (key_of r) r)) 0 → t ≡ true
-              go true e = refl
-              go false e = absurd (pw e)
+          found_is = there.0
 
           deep_is : g ≡ depth (held sheet a b) (key_of r) (row_in sheet (key_of r) r)
-          deep_is = depth_is ∙ ap (λ (t : Bool). cond t (depth (held sheet a b) (key_of r) (row_in sheet (key_of r) r)) 0) found_is
+          deep_is = sym there.1
 
           module _ (v : Bool) (hv : v ≡ ltb 64 g) where
             limit_is : ltb 64 (depth (held sheet a b) (key_of r) (row_in sheet (key_of r) r)) ≡ v

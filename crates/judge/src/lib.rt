@@ -10,11 +10,13 @@ ghost use Rattle.table.specs.Layout.{row_in, held};
 ghost use Rattle.seen.specs.Seen.{Seen, Unlike};
 ghost use Rattle.uses.specs.Under.{Noted};
 ghost use Rattle.fits.specs.Fit.{Known};
-ghost use Rattle.judge.specs.Verdicts.{NewDepth, TypedLine, Judged, seen_at};
+ghost use Rattle.faults.specs.Numbers.{fault_number};
+ghost use Rattle.judge.specs.Verdicts.{NewDepth, TypedLine, Judged, key_in, depth_in, seen_at};
 
 use checks::{new_depth, node_depth, too_many};
 use depths::is_too_deep;
-use forms::{ENTITY, NO_KEY, NODE, TEXT};
+use faults::Fault;
+use forms::{ENTITY, NODE, TEXT};
 use order::{in_turn, nodes_full};
 use repeats::is_text;
 use seen::see_line;
@@ -24,23 +26,14 @@ use typing::nodes::node_typed;
 use uses::{use_nodes, use_root};
 use words::{ROOM, cut};
 
-// A refusal, 0 for none; the row's key and its depth.
+// The key and the depth of a row that is not refused.
 #[derive(Clone, Copy)]
 pub struct Verdict {
-    pub number: u32,
     pub key: usize,
     pub depth: u32,
 }
 
-fn refused(number: u32) -> Verdict
-    ensures { result.number ≡ number }
-{
-    Verdict {
-        number,
-        key: NO_KEY,
-        depth: 0,
-    }
-}
+// kept: rows and work are lent shared in checks, work mutable here and both in take, so what is known of both would need three structs, which is no plainer.
 
 // Whether a row of this key is typed. No line before the entities asks whether a value fits, so nothing is remembered of it.
 fn typed_line(rows: &[u32], work: &mut [u32], line: &[u32], key: usize) -> bool
@@ -53,59 +46,70 @@ fn typed_line(rows: &[u32], work: &mut [u32], line: &[u32], key: usize) -> bool
     typed(rows, work, line, key)
 }
 
-// The depth of a row of this key; 0 where a line that it refers to is not there, or the row is not new, as it is known to be where `new` says so.
-fn depth_of(sheet: &[u8], rows: &[u32], work: &[u32], key: usize, line: &[u32], new: bool) -> usize
+// The depth of a row of this key, if the lines that it refers to are there and the row is new, as it is known to be where `new` says so.
+fn depth_of(
+    sheet: &[u8],
+    rows: &[u32],
+    work: &[u32],
+    key: usize,
+    line: &[u32],
+    new: bool,
+) -> Option<usize>
     requires key_value { (key ≡ key_of line.now) × (key < no_key) }
     requires noted { Noted rows.now work.now × Unlike (row_in sheet.now (key_of line.now) line.now) (lines_of (held sheet.now rows.now work.now) (key_of line.now)) new }
     ensures { NewDepth sheet.now rows.now work.now line.now key result }
 {
     if key == TEXT {
         if new {
-            return 1;
+            return Some(1);
         }
         let s = item(line, 1) as usize;
         let n = item(line, 2) as usize;
         if is_text(sheet, rows, bytes(sheet, s, s + n)) {
-            return 0;
+            return None;
         }
-        return 1;
+        return Some(1);
     }
     new_depth(rows, work, key, line, new)
 }
 
 // The refusal of a node's row, and where there is none its key and depth; the nodes that it uses are then marked. A line of the key `last`, that of
 // the line before, may come.
-fn judge_node(sheet: &[u8], rows: &[u32], work: &mut [u32], line: &[u32], last: usize) -> Verdict
+fn judge_node(
+    sheet: &[u8],
+    rows: &[u32],
+    work: &mut [u32],
+    line: &[u32],
+    last: usize,
+) -> Result<Verdict, Fault>
     requires line_value { (key_of line.now ≡ NODE) × (length rows.now ≡ room) × (length work.old ≡ room) × (in_order (held sheet.now rows.now work.old) last ≡ true) }
     requires known { Known rows.now work.old × Noted rows.now work.old }
-    ensures { Judged sheet.now rows.now work.old line.now work.new result.number result.key result.depth }
+    ensures { Judged sheet.now rows.now work.old line.now work.new (fault_number result) (key_in result) (depth_in result) }
 {
     let rows = &rows[..ROOM];
     let work = &mut work[..ROOM];
     if !in_turn(rows, NODE, last) {
-        return refused(3);
+        return Err(Fault::Form);
     }
     if nodes_full(rows) {
-        return refused(4);
+        return Err(Fault::TooMany);
     }
-    let depth = node_depth(rows, work, line);
-    if depth == 0 {
-        return refused(5);
-    }
+    let Some(depth) = node_depth(rows, work, line) else {
+        return Err(Fault::Reference);
+    };
     if is_too_deep(depth) {
-        return refused(6);
+        return Err(Fault::Depth);
     }
     if !node_typed(rows, work, line) {
-        return refused(7);
+        return Err(Fault::Typing);
     }
     if use_nodes(rows, work, line) {
-        return refused(8);
+        return Err(Fault::Uses);
     }
-    Verdict {
-        number: 0,
+    Ok(Verdict {
         key: NODE,
         depth: depth as u32,
-    }
+    })
 }
 
 // The same of a row of another key. A row that is `new` repeats no other.
@@ -117,37 +121,35 @@ fn judge(
     line: &[u32],
     new: bool,
     last: usize,
-) -> Verdict
+) -> Result<Verdict, Fault>
     requires key_value { (key ≡ key_of line.now) × (key ≡ NODE → ⊥) × (length rows.now ≡ room) × (length work.old ≡ room) × (in_order (held sheet.now rows.now work.old) last ≡ true) }
     requires known { Known rows.now work.old × Noted rows.now work.old × Unlike (row_in sheet.now (key_of line.now) line.now) (lines_of (held sheet.now rows.now work.old) (key_of line.now)) new }
-    ensures { Judged sheet.now rows.now work.old line.now work.new result.number result.key result.depth }
+    ensures { Judged sheet.now rows.now work.old line.now work.new (fault_number result) (key_in result) (depth_in result) }
 {
     let rows = &rows[..ROOM];
     let work = &mut work[..ROOM];
     if !in_turn(rows, key, last) {
-        return refused(3);
+        return Err(Fault::Form);
     }
     if too_many(rows, work, key, line) {
-        return refused(4);
+        return Err(Fault::TooMany);
     }
-    let d = depth_of(sheet, rows, work, key, line, new);
-    if d == 0 {
-        return refused(5);
-    }
-    if is_too_deep(d) {
-        return refused(6);
+    let Some(depth) = depth_of(sheet, rows, work, key, line, new) else {
+        return Err(Fault::Reference);
+    };
+    if is_too_deep(depth) {
+        return Err(Fault::Depth);
     }
     if !typed_line(rows, work, line, key) {
-        return refused(7);
+        return Err(Fault::Typing);
     }
     if use_root(rows, work, key, line) {
-        return refused(8);
+        return Err(Fault::Uses);
     }
-    Verdict {
-        number: 0,
+    Ok(Verdict {
         key,
-        depth: d as u32,
-    }
+        depth: depth as u32,
+    })
 }
 
 // The same of the row that lies from word `top` to word `end`, which joins the rows seen.
@@ -159,10 +161,10 @@ pub fn judge_at(
     end: usize,
     seen: &mut [u32],
     last: usize,
-) -> Verdict
+) -> Result<Verdict, Fault>
     requires rows_len { (length rows.now ≡ room) × (length work.old ≡ room) × (in_order (held sheet.now rows.now work.old) last ≡ true) }
     requires known { Known rows.now work.old × Noted rows.now work.old × Seen (held sheet.now rows.now work.old) seen.old }
-    ensures verdict { Judged sheet.now rows.now work.old (part rows.now top end) work.new result.number result.key result.depth }
+    ensures verdict { Judged sheet.now rows.now work.old (part rows.now top end) work.new (fault_number result) (key_in result) (depth_in result) }
     ensures seen { seen.new ≡ seen_at sheet.now seen.old (part rows.now top end) }
 {
     let line = cut(rows, top, end);

@@ -5,58 +5,17 @@
 // or 1 complete, the bytes of the sheet, the words of each work slice, the bytes of the buffer), then its name and its sheet.
 #![tactic(auto)]
 
-use scan::front;
-use trial::{call, number, report, take};
-
-fn run(rt: &impl Print, entry: usize, sheet: &[u8], a: &mut [u32], b: &mut [u32], out: &mut [u8]) {
-    let r = call(entry, sheet, a, b, out);
-    report(rt, r, a, b, out);
-}
-
-// Slices and a buffer of the lengths that the record says.
-fn lend(rt: &impl Print, entry: usize, sheet: &[u8], first: usize, second: usize, buffer: usize) {
-    let mut a = [0u32; 16400];
-    let mut b = [0u32; 16400];
-    let mut out = [0u8; 65536];
-    if first > 16400 {
-        return;
-    }
-    if second > 16400 {
-        return;
-    }
-    if buffer > 65536 {
-        return;
-    }
-    run(
-        rt,
-        entry,
-        sheet,
-        &mut a[0..first],
-        &mut b[0..second],
-        &mut out[0..buffer],
-    );
-}
+use trial::{call, heading, number, taken, try_call};
 
 fn record(rt: &(impl Input + Print)) {
-    let named = number(rt);
-    let entry = number(rt);
-    let size = number(rt);
-    let first = number(rt);
-    let second = number(rt);
-    let buffer = number(rt);
-    let mut name = [0u8; 64];
-    take(rt, &mut name, named);
-    let _ = rt.write_all(front(&name, named));
-    let mut sheet = [0u8; 16400];
-    take(rt, &mut sheet, size);
-    lend(rt, entry, front(&sheet, size), first, second, buffer);
+    let (entry, size, lengths) = heading(rt);
+    let mut space = [0u8; 16400];
+    let sheet = taken(rt, &mut space, size);
+    try_call(rt, lengths, |a, b, out| call(entry, sheet, a, b, out));
 }
 
 fn main(rt: HostRuntime) {
-    let n = number(&rt);
-    let mut i = 0;
-    while i < n {
+    for _ in 0..number(&rt) {
         record(&rt);
-        i += 1;
     }
 }

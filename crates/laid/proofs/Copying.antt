@@ -1,4 +1,4 @@
--- Stores of a row's own words: a run of them, and places moved. Assumes nothing.
+-- Places moved in a row's own words. Assumes nothing.
 use mathlib.Core.Path.{◌≡◌, refl, sym, ap, ◌∙◌, subst}
 use mathlib.Core.Bool.{Bool, cond}
 use mathlib.Core.List.{List}
@@ -8,7 +8,6 @@ use native.Mathlib.Decide.{ℕ_discrete}
 use borrow.Author.Tests.{lt-ltb, le-ltb}
 use lib.ListN.{length, get_or, drop, set, length-set}
 use lib.Seq.{sets, get_or-set_same, get_or-set_other}
-use Rattle.words.proofs.Stores.{storing_on, storing_end}
 use Rattle.forms.proofs.Keys.{regions_rise, regions_low, regions_high}
 use Rattle.table.specs.Layout.{TOP, heap, base, limit}
 use Rattle.laid.specs.Laid.{AHEAD, moved, Ends, MovesRows, Moves}
@@ -22,26 +21,6 @@ moved_far x h = sym (ap (λ (t : Bool). cond t x (x + AHEAD)) (lt-ltb 16384 x h)
 pub moved_near : (x : ℕ) → x ≤ 16384 → x + 6 ≡ moved x
 unfolding moved
 moved_near x h = sym (ap (λ (t : Bool). cond t x (x + AHEAD)) (le-ltb 16384 x h))
-
--- ---- a run of stores, at a place and so many words on
-
--- from w₀ at place `at` all of row is left to store, now the rest from i on
-pub record Copying (row w₀ : List ℕ) (at : ℕ) (w : List ℕ) (i : ℕ) : Type 0 where
-  pub long : length w ≡ length w₀
-  pub left : sets w₀ at row ≡ sets w (at + i) (drop i row)
-
-pub copying_start : (row w : List ℕ) (at : ℕ) → Copying row w at w 0
-copying_start row w at = let z : at + 0 ≡ at = omega arith in record { long = refl; left = rw z }
-
-module _ (row w₀ : List ℕ) (at : ℕ) (w : List ℕ) (i : ℕ) (c : Copying row w₀ at w i) where
-  pub copying_on : i < length row → Copying row w₀ at (set w (at + i) (get_or row i 0)) (i + 1)
-  copying_on h =
-      let z : at + (i + 1) ≡ at + i + 1 = omega arith in
-      let s = storing_on row w₀ at w (at + i) i (record { long = c.long; left = c.left }) h in
-      record { long = s.long; left = rw z s.left }
-
-  pub copying_end : length row ≤ i → w ≡ sets w₀ at row
-  copying_end h = storing_end row w₀ at w (at + i) i (record { long = c.long; left = c.left }) h
 
 -- ---- the places of a key's rows
 

@@ -3,7 +3,6 @@
 #![tactic(auto)]
 
 ghost use Rattle.std.specs.Prelude.{◌≡◌, suc, ◌+◌, ◌≤◌, ◌<◌, length};
-ghost use Rattle.std.proofs.lemmas.List.Edits.{sets};
 ghost use Rattle.table.specs.Layout.{heap, base};
 ghost use Rattle.laid.specs.Laid.{moved, line_with, Ends, MovesRows, Moves, Shifted, Lays, Laid, Roomy};
 
@@ -26,24 +25,6 @@ fn moved(place: u32) -> u32
     place + AHEAD as u32
 }
 
-// A run of stores from `at` on, all of which the slice has room for.
-fn copy(words: &mut [u32], at: usize, row: &[u32])
-    ensures { words.new ≡ sets words.old at row.now }
-{
-    let n = row.len();
-    if words.len() < n {
-        return store(words, at, row);
-    }
-    if words.len() - n < at {
-        return store(words, at, row);
-    }
-    let mut i = 0;
-    while i < n {
-        words[at + i] = row[i];
-        i += 1;
-    }
-}
-
 // Where the words end that say where a key's rows begin, with the one for the end of the last.
 fn places_end(rows: &[u32], key: usize) -> usize
     ensures { Ends rows.now key result }
@@ -60,11 +41,8 @@ fn move_rows(rows: &[u32], own: &mut [u32], key: usize)
     requires { (heap ≤ length rows.now) × (heap ≤ length own.old) }
     ensures { MovesRows key rows.now own.old own.new }
 {
-    let end = places_end(rows, key);
-    let mut i = base_of(key);
-    while i < end {
+    for i in base_of(key)..places_end(rows, key) {
         own[i] = moved(rows[i]);
-        i += 1;
     }
 }
 
@@ -73,10 +51,8 @@ fn move_places(rows: &[u32], own: &mut [u32])
     requires { (heap ≤ length rows.now) × (heap ≤ length own.old) }
     ensures { Moves rows.now own.old own.new }
 {
-    let mut key = 0;
-    while key < TOP {
+    for key in 0..TOP {
         move_rows(rows, own, key);
-        key += 1;
     }
     own[TOP] = moved(rows[TOP]);
 }
@@ -98,9 +74,9 @@ fn shift(rows: &[u32], own: &mut [u32])
     requires { (16384 ≤ length rows.now) × (length own.old ≡ 16384) }
     ensures { Roomy rows.now → Shifted rows.now own.new }
 {
-    copy(own, 0, cut(rows, 0, TOP));
+    store(own, 0, cut(rows, 0, TOP));
     move_places(rows, own);
-    copy(own, HEAP + AHEAD, cut(rows, HEAP, read(rows, TOP) as usize));
+    store(own, HEAP + AHEAD, cut(rows, HEAP, read(rows, TOP) as usize));
 }
 
 // The rows of a sheet in words of their own, with these texts of principal and resource.

@@ -1,6 +1,6 @@
 -- Wildcard match: the items between two stars may be matched at the first place where they stand. Assumes nothing.
 use mathlib.Core.Path.{◌≡◌, refl, sym, ap, ◌∙◌, subst}
-use mathlib.Core.Bool.{Bool, true, false, not, cond, ◌&&◌, ◌||◌, and-true, and-false, and-eq-true_iff}
+use mathlib.Core.Bool.{Bool, true, false, not, cond, ◌&&◌, ◌||◌, and-eq-true_iff}
 use mathlib.Core.List.{List, [], ◌∷◌}
 use Prim.Native.Nat.{ℕ, suc, ◌+◌, ◌-◌, ◌≤◌, ◌<◌}
 use native.Mathlib.Numerals.{add-one}
@@ -9,6 +9,7 @@ use borrow.Author.Tests.{eq-eqb, ne_eqb, ltb-true, ltb-false, lt-ltb, le-ltb, le
 use lib.Dec.{eqb, leb, ltb}
 use lib.ListN.{length, get_or, take, drop, length-drop}
 use lib.Seq.{drop-drop, get_or-take, get_or-drop}
+use lib.Pointwise.{pointwise}
 use Rattle.cedar.proofs.Tools.{or_right, either, iff}
 use Rattle.cedar.specs.Evaluate.{match_piece, any_suffix, is_nil, matches}
 use Rattle.cedar.specs.Residual.{star, piece}
@@ -59,6 +60,12 @@ unfolding begins
 begins_none [] s e = refl
 begins_none (x ∷ p) s e = absurd (omega arith)
 
+pointwise_same : (p s : List ℕ) → pointwise eqb p s ≡ same p s
+pointwise_same [] [] = refl
+pointwise_same [] (y ∷ s) = refl
+pointwise_same (x ∷ p) [] = refl
+pointwise_same (x ∷ p) (y ∷ s) = ap (λ (b : Bool). eqb x y && b) (pointwise_same p s)
+
 begins_same : (p s : List ℕ) → length p ≤ length s → begins p s ≡ same p (take (length p) s)
 unfolding begins
 begins_same [] s h = refl
@@ -86,44 +93,10 @@ module _ (p s : List ℕ) (at : ℕ) (h : at ≤ length s) (k : length p ≤ len
         let z : at + (length p - 1) ≡ at + length p - 1 = omega arith in
         apart (length p - 1) l (λ e. n (e ∙ ap (λ (j : ℕ). get_or s j 0) z))
 
-  pub begins_told : (b : Bool) → b ≡ not (same p (take (at + length p - at) (drop at s))) → not b ≡ begins p (drop at s)
+  pub begins_told : (b : Bool) → b ≡ pointwise eqb p (take (at + length p - at) (drop at s)) → b ≡ begins p (drop at s)
   begins_told b e =
       let z : at + length p - at ≡ length p = omega arith in
-      let f : not (same p (take (at + length p - at) (drop at s))) ≡ not (same p (take (length p) (drop at s))) = rw z in
-      ap not (e ∙ f) ∙ twice (same p (take (length p) (drop at s))) ∙ sym as_same
-    where
-      twice : (c : Bool) → not (not c) ≡ c
-      twice true = refl
-      twice false = refl
-
--- ---- two texts of one length
-
--- the first i bytes were looked at, and d is 0 while none differ
-pub record Telling (x y : List ℕ) (d i : ℕ) : Type 0 where
-  pub near : i ≤ length x
-  pub left : same x y ≡ (eqb d 0 && same (drop i x) (drop i y))
-
-pub tell_start : (x y : List ℕ) → Telling x y 0 0
-tell_start x y = record { near = omega arith; left = refl }
-
-tell : (d : ℕ) (b c : Bool) → (eqb d 0 && (b && c)) ≡ (eqb (cond b d 1) 0 && c)
-tell d true c = refl
-tell d false c = and-false (eqb d 0)
-
-module _ (x y : List ℕ) (e : length x ≡ length y) (d i : ℕ) (g : Telling x y d i) where
-  pub tell_on : (f : ℕ) → i < length x → f ≡ cond (eqb (get_or x i 0) (get_or y i 0)) d 1 → Telling x y f (i + 1)
-  tell_on f h q =
-      let o : same (drop i x) (drop i y) ≡ (eqb (get_or x i 0) (get_or y i 0) && same (drop (i + 1) x) (drop (i + 1) y)) = rw (uncons x 0 i h, uncons y 0 i (omega arith)) in
-      record {
-        near = omega arith;
-        left = g.left ∙ ap (λ (b : Bool). eqb d 0 && b) o ∙ tell d (eqb (get_or x i 0) (get_or y i 0)) (same (drop (i + 1) x) (drop (i + 1) y))
-            ∙ ap (λ (n : ℕ). eqb n 0 && same (drop (i + 1) x) (drop (i + 1) y)) (sym q);
-      }
-
-  pub tell_end : length x ≤ i → not (eqb d 0) ≡ not (same x y)
-  tell_end h =
-      let f : (eqb d 0 && same (drop i x) (drop i y)) ≡ eqb d 0 = rw (spent x i h, spent y i (omega arith)) (and-true (eqb d 0)) in
-      ap not (sym (g.left ∙ f))
+      e ∙ rw z (pointwise_same p (take (length p) (drop at s)) ∙ sym as_same)
 
 -- ---- the first place of a piece
 
@@ -156,15 +129,18 @@ pub record Hunting (p s : List ℕ) (from u : ℕ) : Type 0 where
   pub near : u ≤ length s
   pub left : from + until_piece p (drop from s) ≡ u + until_piece p (drop u s)
 
-pub hunt_start : (p s : List ℕ) (u : ℕ) → u ≤ length s → Hunting p s u u
-hunt_start p s u h = record { near = h; left = refl }
-
 module _ (p s : List ℕ) (from u : ℕ) (g : Hunting p s from u) where
   pub hunt_short : length s - u < length p → length s ≡ from + until_piece p (drop from s)
   hunt_short h =
       let l : length (drop u s) ≡ length s - u = length-drop u s in
       let z : until_piece p (drop u s) ≡ length (drop u s) = until_short p (drop u s) (omega arith) in
       omega (arith, g.left, g.near)
+
+  pub hunt_end : length s ≤ u → length s ≡ from + until_piece p (drop from s)
+  unfolding until_piece
+  hunt_end h =
+      let z : until_piece p (drop u s) ≡ 0 = ap (until_piece p) (spent s u h) in
+      omega (arith, g.left, g.near, z)
 
   module _ (b : Bool) (eb : b ≡ begins p (drop u s)) where
     pub hunt_hit : b ≡ true → u ≡ from + until_piece p (drop from s)
@@ -476,9 +452,6 @@ pub record Globbing (B : ℕ → List ℕ) (P S : List ℕ) (q₀ t₀ q t : ℕ
   pub near_p : q ≤ length P
   pub near_s : t ≤ length S
   pub left : after B P S q₀ t₀ ≡ after B P S q t
-
-pub glob_start : (B : ℕ → List ℕ) (P S : List ℕ) (q t : ℕ) → q ≤ length P → t ≤ length S → Globbing B P S q t q t
-glob_start B P S q t h k = record { near_p = h; near_s = k; left = refl }
 
 -- places before the first item's are passed over
 pub any_skip : (f : List ℕ → Bool) (p : List ℕ) → ((l : List ℕ) → begins p l ≡ false → f l ≡ false) → (s : List ℕ) → any_suffix f s ≡ any_suffix f (drop (until_piece p s) s)

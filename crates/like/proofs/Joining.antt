@@ -8,12 +8,12 @@ use native.Mathlib.Decide.{dec_le}
 use borrow.Author.Tests.{eq-eqb, ne_eqb, eqb-true, ltb-true, ltb-false, lt-ltb, le-ltb, not-true, not-false}
 use lib.Dec.{eqb, ltb}
 use lib.ListN.{length, get_or, take, drop, length-drop, length-append}
-use lib.Seq.{drop-drop, take-append_seam}
+use lib.Seq.{drop-drop, length-take-le}
+use borrow.Rule.Slice.PartMut.{put_mid, same_len_mid}
+use Rattle.std.proofs.lemmas.Slice.{take-put_mid}
 use Rattle.cedar.specs.Evaluate.{any_suffix, is_nil, matches}
 use Rattle.sheet.specs.Forms.{mark}
 use Rattle.sheet.specs.Content.{pattern_of}
-use Rattle.print.specs.Written.{Written}
-use Rattle.print.proofs.Writing.{written_none, written_append, written_length, written_over}
 use Rattle.like.specs.Globs.{Step, holds, fails, on_to, step_in, begins, until_piece, block_of, step_of, after, standing, asked, Joins, first_of, last_of, Steps}
 use Rattle.like.specs.declared.Step.{Step as Stepᶜ}
 use Rattle.like.specs.declared.Step.TheVariants.{Holds, Fails, On}
@@ -131,59 +131,40 @@ first_found B p K s e =
 over : (s : List ℕ) (t u n : ℕ) → drop n (drop u (drop t s)) ≡ drop (t + u + n) s
 over s t u n = ap (drop n) (drop-drop u t s) ∙ drop-drop n (t + u) s
 
--- ---- items that add nothing
-
-module _ (x e n : ℕ) where
-  pub idle_star : x ≡ mark → eqb n 0 ≡ cond (eqb x mark) (eqb n 0) (eqb x e)
-  idle_star h = rw (eq-eqb x mark h)
-
-  pub idle_text : (x ≡ mark → ⊥) → eqb x e ≡ cond (eqb x mark) (eqb n 0) (eqb x e)
-  idle_text h = rw (ne_eqb x mark h)
-
-module _ (v : List ℕ) (x e : ℕ) where
-  pub emptied_now : length v ≡ 0 → x ≡ cond (eqb (length v) 0) x e
-  emptied_now h = rw (eq-eqb (length v) 0 h)
-
-  pub emptied_not : (length v ≡ 0 → ⊥) → e ≡ cond (eqb (length v) 0) x e
-  emptied_not h = rw (ne_eqb (length v) 0 h)
-
 -- ---- where the joining stands
+
+-- a part that is replaced by as many bytes
+put_long : (a k : ℕ) (xs ys : List ℕ) → k ≡ length ys → a + k ≤ length xs → length (put_mid a k xs ys) ≡ length xs
+put_long a k xs ys e h = same_len_mid a k xs ys (omega (arith, length-drop a xs, length-take-le k (drop a xs)))
 
 -- the n bytes of `text` are joined, and the items from p on are left; `empty` is a star or an empty text
 pub record Joining (B : ℕ → List ℕ) (P : List ℕ) (q : ℕ) (w₀ w : List ℕ) (p n empty : ℕ) : Type 0 where
   pub near_p : p ≤ length P
   pub ahead : q ≤ p
   pub text : List ℕ
-  pub held : Written w₀ 0 text w n
-  pub fits : length text ≤ length w₀
+  pub wide : length w ≡ length w₀
+  pub size : n ≡ length text
+  pub room : n ≤ length w
+  pub held : take n w ≡ text
   pub none : (empty ≡ mark → ⊥) → B empty ≡ []
   pub asks : (s : List ℕ) → asked B P q s ≡ any_suffix (standing text (matches B (pattern_of (drop p P)))) s
 
-pub join_start : (B : ℕ → List ℕ) (P : List ℕ) (q : ℕ) (w : List ℕ) → q ≤ length P → length w ≤ 18446744073709551615 → Joining B P q w w q 0 mark
+pub join_start : (B : ℕ → List ℕ) (P : List ℕ) (q : ℕ) (w : List ℕ) → q ≤ length P → Joining B P q w w q 0 mark
 unfolding asked standing begins
-join_start B P q w h l =
+join_start B P q w h =
     record {
       near_p = h;
       ahead = omega arith;
       text = [];
-      held = written_none w 0 (omega arith) l;
-      fits = omega arith;
+      wide = refl;
+      size = refl;
+      room = omega arith;
+      held = refl;
       none = λ n. absurd (n refl);
       asks = λ s. refl;
     }
 
 module _ (B : ℕ → List ℕ) (P : List ℕ) (q : ℕ) (w₀ w : List ℕ) (p n empty : ℕ) (g : Joining B P q w₀ w p n empty) where
-  size : n ≡ length g.text
-  size = (written_over w₀ g.text w n g.held g.fits).1
-
-  pub wide : length w ≡ length w₀
-  wide = written_length g.held
-
-  kept : take n w ≡ g.text
-  kept =
-      let o = written_over w₀ g.text w n g.held g.fits in
-      ap₂ (λ (i : ℕ) (k : List ℕ). take i k) o.1 o.0 ∙ take-append_seam g.text (drop (length g.text) w₀)
-
   abbrev M : ℕ → List ℕ → Bool
   M k = matches B (pattern_of (drop k P))
 
@@ -192,14 +173,11 @@ module _ (B : ℕ → List ℕ) (P : List ℕ) (q : ℕ) (w₀ w : List ℕ) (p 
   asks_as f h s = g.asks s ∙ any_as (standing g.text (M p)) (standing g.text f) (standing_as g.text (M p) f h) s
 
   asks_held : (f : List ℕ → Bool) → ((l : List ℕ) → M p l ≡ f l) → (s : List ℕ) → asked B P q s ≡ any_suffix (standing (take n w) f) s
-  asks_held f h s = asks_as f h s ∙ ap (λ (x : List ℕ). any_suffix (standing x f) s) (sym kept)
-
-  pub room : n ≤ length w
-  room = omega (arith, size, wide, g.fits)
+  asks_held f h s = asks_as f h s ∙ ap (λ (x : List ℕ). any_suffix (standing x f) s) (sym g.held)
 
   pub join_last : length P ≤ p → Joins B P q w (Last n)
   unfolding Joins
-  join_last h = (room, asks_held is_nil (λ l. ap (λ (x : List ℕ). matches B (pattern_of x) l) (spent P p h)))
+  join_last h = (g.room, asks_held is_nil (λ l. ap (λ (x : List ℕ). matches B (pattern_of x) l) (spent P p h)))
 
   module _ (h : p < length P) (x : ℕ) (ex : x ≡ get_or P p 0) where
     at_items : (l : List ℕ) → M p l ≡ matches B (pattern_of (x ∷ drop (p + 1) P)) l
@@ -218,7 +196,7 @@ module _ (B : ℕ → List ℕ) (P : List ℕ) (q : ℕ) (w₀ w : List ℕ) (p 
     join_idle b eb e = go (eqb x mark) refl (sym eb ∙ e)
       where
         next : ((s : List ℕ) → asked B P q s ≡ any_suffix (standing g.text (M (p + 1))) s) → Joining B P q w₀ w (p + 1) n empty
-        next a = record { near_p = omega arith; ahead = omega (arith, g.ahead); text = g.text; held = g.held; fits = g.fits; none = g.none; asks = a }
+        next a = record { near_p = omega arith; ahead = omega (arith, g.ahead); text = g.text; wide = g.wide; size = g.size; room = g.room; held = g.held; none = g.none; asks = a }
 
         none_yet : (t : List ℕ) → length t ≡ 0 → (f : List ℕ → Bool) (s : List ℕ) → any_suffix (standing t (any_suffix f)) s ≡ any_suffix (standing t f) s
         none_yet [] z f s = any_twice f s
@@ -229,7 +207,7 @@ module _ (B : ℕ → List ℕ) (P : List ℕ) (q : ℕ) (w₀ w : List ℕ) (p 
 
         go : (m : Bool) → eqb x mark ≡ m → cond m (eqb n 0) (eqb x empty) ≡ true → Joining B P q w₀ w (p + 1) n empty
         go true m z =
-            let o : length g.text ≡ 0 = sym size ∙ eqb-true n 0 z in
+            let o : length g.text ≡ 0 = sym g.size ∙ eqb-true n 0 z in
             next (λ s. asks_as (asked B P (p + 1)) (by_star (eqb-true x mark m)) s ∙ none_yet g.text o (M (p + 1)) s)
         go false m z =
             let k : x ≡ mark → ⊥ = λ y. let c : ◌≡◌ {A = Bool} true false = sym (eq-eqb x mark y) ∙ m in let u : ◌≡◌ {A = ℕ} 0 1 = cc in absurd (omega arith) in
@@ -239,7 +217,7 @@ module _ (B : ℕ → List ℕ) (P : List ℕ) (q : ℕ) (w₀ w : List ℕ) (p 
 
     pub join_star : x ≡ mark → Joins B P q w (Inner (p + 1) n)
     unfolding Joins
-    join_star m = (room, omega (arith, g.ahead), omega arith, asks_held (asked B P (p + 1)) (by_star m))
+    join_star m = (g.room, omega (arith, g.ahead), omega arith, asks_held (asked B P (p + 1)) (by_star m))
 
     module _ (m : x ≡ mark → ⊥) (v : List ℕ) (ev : v ≡ B x) where
       by_text : (l : List ℕ) → M p l ≡ standing v (M (p + 1)) l
@@ -251,18 +229,20 @@ module _ (B : ℕ → List ℕ) (P : List ℕ) (q : ℕ) (w₀ w : List ℕ) (p 
           asks_as (standing v (M (p + 1))) by_text s
           ∙ any_short (standing g.text (standing v (M (p + 1)))) (length w)
           (λ l j.
-          let f : begins v (drop (length g.text) l) ≡ false = sym (too_long v (drop (length g.text) l) (omega (arith, length-drop (length g.text) l, size))) in
+          let f : begins v (drop (length g.text) l) ≡ false = sym (too_long v (drop (length g.text) l) (omega (arith, length-drop (length g.text) l, g.size))) in
           rw f (and-false (begins g.text l)))
           s k
 
-      pub join_on : length v ≤ length w - n → (w' : List ℕ) (n' : ℕ) → Written w n v w' n' → (e : ℕ) → e ≡ cond (eqb (length v) 0) x empty → Joining B P q w₀ w' (p + 1) n' e
-      join_on o w' n' k e ee =
+      pub join_on : length v ≤ length w - n → (v' : List ℕ) → v' ≡ v → (e : ℕ) → e ≡ cond (eqb (length v) 0) x empty → Joining B P q w₀ (put_mid n (n + length v - n) w v') (p + 1) (n + length v) e
+      join_on o v' k e ee =
           record {
             near_p = omega arith;
             ahead = omega (arith, g.ahead);
             text = g.text ++ v;
-            held = written_append g.held k;
-            fits = omega (arith, length-append g.text v, size, wide, g.fits);
+            wide = put_long n (n + length v - n) w v' (omega (arith, ap length k)) (omega (arith, g.room)) ∙ g.wide;
+            size = omega (arith, length-append g.text v, g.size);
+            room = omega (arith, put_long n (n + length v - n) w v' (omega (arith, ap length k)) (omega (arith, g.room)), g.room);
+            held = take-put_mid n (n + length v - n) w v' (n + length v) (omega (arith, ap length k)) g.room ∙ ap₂ (λ (a b : List ℕ). a ++ b) g.held k;
             none = go (eqb (length v) 0) refl ee;
             asks = λ s. asks_as (standing v (M (p + 1))) by_text s
                 ∙ any_as (standing g.text (standing v (M (p + 1)))) (standing (g.text ++ v) (M (p + 1))) (standing_append g.text v (M (p + 1))) s;

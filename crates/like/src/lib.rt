@@ -2,16 +2,14 @@
 // where it stands first, no later place is tried for it.
 #![tactic(auto)]
 
-ghost use Rattle.std.specs.Prelude.{◌≡◌, cond, not, ◌+◌, ◌≤◌, eqb, length, drop};
+ghost use Rattle.std.specs.Prelude.{◌≡◌, cond, ◌+◌, ◌≤◌, eqb, length, drop};
 ghost use Rattle.cedar.specs.Evaluate.{matches};
-ghost use Rattle.sheet.specs.Bytes.{same};
 ghost use Rattle.sheet.specs.Forms.{mark};
 ghost use Rattle.sheet.specs.Content.{pattern_of};
 ghost use Rattle.table.specs.Layout.{text_at};
 ghost use Rattle.like.specs.Globs.{block_in, step_in, begins, block_of, until_piece, later_of, step_of, after, Joins, first_of, last_of, Steps};
 
 use forms::MARK;
-use print::bytes;
 use table::text;
 
 // The items up to the next `*` at a place of the text: they do not stand there; they do, and are the last ones, up to this place;
@@ -21,30 +19,6 @@ pub enum Block {
     Misses,
     Ends(usize),
     Star(usize, usize),
-}
-
-// What is known of two texts, one byte further on: 1 once two bytes differ.
-fn told(known: u8, x: u8, y: u8) -> u8
-    ensures { result ≡ cond (eqb x y) known 1 }
-{
-    if x == y {
-        return known;
-    }
-    1
-}
-
-// Whether two texts of one length differ. Every byte is looked at, so that many are compared at once.
-fn differ(left: &[u8], right: &[u8]) -> bool
-    requires { length left.now ≡ length right.now }
-    ensures { result ≡ not (same left.now right.now) }
-{
-    let mut d: u8 = 0;
-    let mut i = 0;
-    while i < left.len() {
-        d = told(d, left[i], right[i]);
-        i += 1;
-    }
-    d != 0
 }
 
 // Whether the text has the piece at a place: the first and the last byte are compared first.
@@ -68,38 +42,7 @@ fn begins(bytes: &[u8], at: usize, piece: &[u8]) -> bool
     if piece[n - 1] != bytes[e - 1] {
         return false;
     }
-    !differ(piece, &bytes[at..e])
-}
-
-// The items from `from` on at place `at`.
-fn block_at(
-    sheet: &[u8],
-    rows: &[u32],
-    pattern: &[u32],
-    bytes: &[u8],
-    from: usize,
-    at: usize,
-) -> Block
-    requires { (from ≤ length pattern.now) × (at ≤ length bytes.now) }
-    ensures { block_in result ≡ block_of (text_at sheet.now rows.now) from at (drop from pattern.now) (drop at bytes.now) }
-{
-    let mut p = from;
-    let mut e = at;
-    loop {
-        if p >= pattern.len() {
-            break Block::Ends(e);
-        }
-        let x = pattern[p];
-        if x == MARK {
-            break Block::Star(p + 1, e);
-        }
-        let piece = text(sheet, rows, x);
-        if !begins(bytes, e, piece) {
-            break Block::Misses;
-        }
-        e += piece.len();
-        p += 1;
-    }
+    piece == &bytes[at..e]
 }
 
 // Whether the pattern holds of the text, or the item and the place to go on from.
@@ -108,6 +51,128 @@ enum Step {
     Holds,
     Fails,
     On(usize, usize),
+}
+
+// A pattern over the texts of a sheet, and the text that it is asked of.
+#[derive(Clone, Copy)]
+struct Glob<'a> {
+    sheet: &'a [u8],
+    rows: &'a [u32],
+    pattern: &'a [u32],
+    bytes: &'a [u8],
+}
+
+// The items of the pattern from `from` on, at place `at` of the text.
+#[derive(Clone, Copy)]
+struct Search<'a> {
+    glob: Glob<'a>,
+    from: usize,
+    at: usize,
+    ghost item: { from ≤ length glob.pattern.now },
+    ghost place: { at ≤ length glob.bytes.now },
+}
+
+impl<'a> Search<'a> {
+    // The items at the place.
+    fn block(&self) -> Block
+        ensures { block_in result ≡ block_of (text_at self.now.glob.sheet.now self.now.glob.rows.now) self.now.from self.now.at (drop self.now.from self.now.glob.pattern.now) (drop self.now.at self.now.glob.bytes.now) }
+    {
+        let pattern = self.glob.pattern;
+        let mut e = self.at;
+        for p in self.from..pattern.len() {
+            let x = pattern[p];
+            if x == MARK {
+                return Block::Star(p + 1, e);
+            }
+            let piece = text(self.glob.sheet, self.glob.rows, x);
+            if !begins(self.glob.bytes, e, piece) {
+                return Block::Misses;
+            }
+            e += piece.len();
+        }
+        Block::Ends(e)
+    }
+
+    // The items after a `*`, at the place or one place further on.
+    fn step(&self) -> Step
+        ensures { step_in result ≡ step_of (length self.now.glob.bytes.now) self.now.from self.now.at (block_of (text_at self.now.glob.sheet.now self.now.glob.rows.now) self.now.from self.now.at (drop self.now.from self.now.glob.pattern.now) (drop self.now.at self.now.glob.bytes.now)) }
+    {
+        match self.block() {
+            Block::Star(p, e) => Step::On(p, e),
+            Block::Misses => later(self.glob.bytes, self.from, self.at),
+            Block::Ends(e) => {
+                if e >= self.glob.bytes.len() {
+                    return Step::Holds;
+                }
+                later(self.glob.bytes, self.from, self.at)
+            }
+        }
+    }
+
+    // The block after a `*`, joined. No sheet has two empty texts; the one that it has is looked up once.
+    fn join(&self, block: &mut [u8]) -> Joined
+        ensures { Joins (text_at self.now.glob.sheet.now self.now.glob.rows.now) self.now.glob.pattern.now self.now.from block.new result }
+    {
+        let pattern = self.glob.pattern;
+        let mut n = 0;
+        let mut empty = MARK;
+        for p in self.from..pattern.len() {
+            let x = pattern[p];
+            if idle(x, empty, n) {
+                continue;
+            }
+            if x == MARK {
+                return Joined::Inner(p + 1, n);
+            }
+            let piece = text(self.glob.sheet, self.glob.rows, x);
+            if piece.len() > block.len() - n {
+                return Joined::Long;
+            }
+            let end = n + piece.len();
+            block[n..end].copy_from_slice(piece);
+            n = end;
+            empty = emptied(piece, x, empty);
+        }
+        Joined::Last(n)
+    }
+
+    // The block after a `*`, at the place or a later one. One that is too long to be joined is tried at one place after the other.
+    fn advance(&self) -> Step
+        ensures { Steps (text_at self.now.glob.sheet.now self.now.glob.rows.now) self.now.glob.pattern.now self.now.glob.bytes.now self.now.from self.now.at (step_in result) }
+    {
+        let mut block: [u8; BLOCK] = [0; BLOCK];
+        let joined = self.join(&mut block[..]);
+        match joined {
+            Joined::Inner(p, n) => first(self.glob.bytes, &block[..n], self.at, p),
+            Joined::Last(n) => last(self.glob.bytes, &block[..n], self.at),
+            Joined::Long => {
+                if self.glob.bytes.len() - self.at <= BLOCK {
+                    return Step::Fails;
+                }
+                self.step()
+            }
+        }
+    }
+
+    // Whether the items after a `*` match at the place or a later one.
+    fn go_on(&self) -> bool
+        ensures { result ≡ after (text_at self.now.glob.sheet.now self.now.glob.rows.now) self.now.glob.pattern.now self.now.glob.bytes.now self.now.from self.now.at }
+    {
+        let glob = self.glob;
+        let mut from = self.from;
+        let mut at = self.at;
+        loop {
+            let here = Search { glob, from, at };
+            match here.advance() {
+                Step::Holds => return true,
+                Step::Fails => return false,
+                Step::On(p, e) => {
+                    from = p;
+                    at = e;
+                }
+            }
+        }
+    }
 }
 
 // The same items one place further on.
@@ -120,47 +185,20 @@ fn later(bytes: &[u8], from: usize, at: usize) -> Step
     Step::Fails
 }
 
-// The items from `from` on, after a `*`, at place `at` or a later one.
-fn step_at(
-    sheet: &[u8],
-    rows: &[u32],
-    pattern: &[u32],
-    bytes: &[u8],
-    from: usize,
-    at: usize,
-) -> Step
-    requires { (from ≤ length pattern.now) × (at ≤ length bytes.now) }
-    ensures { step_in result ≡ step_of (length bytes.now) from at (block_of (text_at sheet.now rows.now) from at (drop from pattern.now) (drop at bytes.now)) }
-{
-    let b = block_at(sheet, rows, pattern, bytes, from, at);
-    match b {
-        Block::Star(p, e) => Step::On(p, e),
-        Block::Misses => later(bytes, from, at),
-        Block::Ends(e) => {
-            if e >= bytes.len() {
-                return Step::Holds;
-            }
-            later(bytes, from, at)
-        }
-    }
-}
-
 // The first place from `from` on where the text has the piece, or the text's end.
 fn seek(bytes: &[u8], piece: &[u8], from: usize) -> usize
     requires { from ≤ length bytes.now }
     ensures { result ≡ from + until_piece piece.now (drop from bytes.now) }
 {
-    let n = piece.len();
-    let mut u = from;
-    loop {
-        if bytes.len() - u < n {
-            break bytes.len();
+    for u in from..bytes.len() {
+        if bytes.len() - u < piece.len() {
+            break;
         }
         if begins(bytes, u, piece) {
-            break u;
+            return u;
         }
-        u += 1;
     }
+    bytes.len()
 }
 
 // The items up to the next `*`, joined to one text: it is longer than there is room for; it has so many bytes and is the last block; item `.0` comes
@@ -195,36 +233,6 @@ fn emptied(piece: &[u8], item: u32, empty: u32) -> u32
     empty
 }
 
-// The block from `from` on, after a `*`, joined. No sheet has two empty texts; the one that it has is looked up once.
-fn join(sheet: &[u8], rows: &[u32], pattern: &[u32], from: usize, block: &mut [u8]) -> Joined
-    requires { from ≤ length pattern.now }
-    ensures { Joins (text_at sheet.now rows.now) pattern.now from block.new result }
-{
-    let mut p = from;
-    let mut n = 0;
-    let mut empty = MARK;
-    loop {
-        if p >= pattern.len() {
-            break Joined::Last(n);
-        }
-        let x = pattern[p];
-        if idle(x, empty, n) {
-            p += 1;
-            continue;
-        }
-        if x == MARK {
-            break Joined::Inner(p + 1, n);
-        }
-        let piece = text(sheet, rows, x);
-        if piece.len() > block.len() - n {
-            break Joined::Long;
-        }
-        n = bytes(block, n, piece);
-        empty = emptied(piece, x, empty);
-        p += 1;
-    }
-}
-
 // A block before item `next`, at its first place from `at` on.
 fn first(bytes: &[u8], piece: &[u8], at: usize, next: usize) -> Step
     requires { at ≤ length bytes.now }
@@ -251,60 +259,24 @@ fn last(bytes: &[u8], piece: &[u8], at: usize) -> Step
     Step::Fails
 }
 
-// The block from `from` on, after a `*`, at place `at` or a later one. One that is too long to be joined is tried at one place after the other.
-fn advance(
-    sheet: &[u8],
-    rows: &[u32],
-    pattern: &[u32],
-    bytes: &[u8],
-    from: usize,
-    at: usize,
-) -> Step
-    requires { (from ≤ length pattern.now) × (at ≤ length bytes.now) }
-    ensures { Steps (text_at sheet.now rows.now) pattern.now bytes.now from at (step_in result) }
-{
-    let mut block: [u8; BLOCK] = [0; BLOCK];
-    let joined = join(sheet, rows, pattern, from, &mut block[..]);
-    match joined {
-        Joined::Inner(p, n) => first(bytes, &block[..n], at, p),
-        Joined::Last(n) => last(bytes, &block[..n], at),
-        Joined::Long => {
-            if bytes.len() - at <= BLOCK {
-                return Step::Fails;
-            }
-            step_at(sheet, rows, pattern, bytes, from, at)
-        }
-    }
-}
-
-// Whether the items from `from` on, after a `*`, match at place `at` or a later one.
-fn go_on(sheet: &[u8], rows: &[u32], pattern: &[u32], bytes: &[u8], from: usize, at: usize) -> bool
-    requires { (from ≤ length pattern.now) × (at ≤ length bytes.now) }
-    ensures { result ≡ after (text_at sheet.now rows.now) pattern.now bytes.now from at }
-{
-    let mut q = from;
-    let mut t = at;
-    loop {
-        let next = advance(sheet, rows, pattern, bytes, q, t);
-        match next {
-            Step::Holds => break true,
-            Step::Fails => break false,
-            Step::On(p, e) => {
-                q = p;
-                t = e;
-            }
-        }
-    }
-}
-
 // Whether the text matches the pattern.
 pub fn like(sheet: &[u8], rows: &[u32], pattern: &[u32], bytes: &[u8]) -> bool
     ensures { result ≡ matches (text_at sheet.now rows.now) (pattern_of pattern.now) bytes.now }
 {
-    let first = block_at(sheet, rows, pattern, bytes, 0, 0);
-    match first {
+    let glob = Glob {
+        sheet,
+        rows,
+        pattern,
+        bytes,
+    };
+    let start = Search {
+        glob,
+        from: 0,
+        at: 0,
+    };
+    match start.block() {
         Block::Misses => false,
         Block::Ends(e) => e >= bytes.len(),
-        Block::Star(p, e) => go_on(sheet, rows, pattern, bytes, p, e),
+        Block::Star(from, at) => Search { glob, from, at }.go_on(),
     }
 }

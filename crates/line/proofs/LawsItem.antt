@@ -1,4 +1,5 @@
 -- The items of a line, by the tests that lead to each. Assumes nothing.
+use Rattle.std.proofs.Common.{Some, None}
 use mathlib.Core.Path.{◌≡◌, refl, sym, ap, ◌∙◌}
 use mathlib.Core.Bool.{Bool, true, false, cond, ◌&&◌, ◌||◌}
 use mathlib.Core.Option.{Option, none, some}
@@ -16,29 +17,26 @@ use Rattle.sheet.specs.Ascii.{ascii}
 use Rattle.words.specs.Log.{part, room}
 use Rattle.sheet.specs.Bytes.{same, split, index, long, date}
 use Rattle.sheet.specs.Forms.{Slot, word, day, entry, line, line_or, line_unknown, number, nothing, dash, asterisk, mark, place_in, word_number, one, mark_or, is_partial, item}
-use Rattle.scan.specs.declared.Number as N
 use Rattle.scan.specs.declared.Cursor.{Cursor}
-use Rattle.scan.specs.declared.Item as I
-use Rattle.scan.specs.declared.Counted as C
-use Rattle.scan.specs.Numbers.{number_of, placed}
-use Rattle.scan.specs.Places.{item_end, items_by, ItemRead, NumberRead}
+use Rattle.scan.specs.Places as Places
+use Rattle.scan.specs.Numbers.{Number, number_of, placed}
+use Rattle.scan.specs.Places.{Counted, item_end, items_by, ItemRead, NumberRead}
 use Rattle.cedar.proofs.Tools.{no_true}
 use Rattle.sheet.proofs.reading.Parsed.{all_below, all_below_law}
 use Rattle.sheet.proofs.demand3.TwoSheets.{same_is}
-use Rattle.scan.proofs.Scans.{same_last, comparing_never}
+use Rattle.scan.proofs.Scans.{same_length}
 use Rattle.scan.proofs.Decimals.{index_small}
 use Rattle.scan.proofs.Wordlists.{words_are}
 use Rattle.scan.proofs.Readings.{items_first, items_part, numbered}
 use Rattle.dates.proofs.Calendar.{past_dates, date_small}
-use Rattle.forms.specs.Tags.{PERMIT, FORBID}
-use Rattle.forms.proofs.Tests.{other, NoneOf, below, past}
+use Rattle.forms.proofs.Tests.{other, below, past}
 use Rattle.forms.specs.Rows.{NONE, NUMBER, ENTRY, KIND_LETTER, FIELD_LETTER, BIT, PART_LETTER, EFFECT, DATE, SLOT_LETTER, LINE, UNKNOWN, DASH, STAR, slot_of, specials}
 use Rattle.line.specs.Codes.{mode_of}
 use Rattle.line.specs.Written.{Item, After}
 
 -- ---- words
 
-word_is : (f : List ℕ) (ws : List String) (l : List ℕ) (r : N.Number) → map ascii ws ≡ split 44 l → number_of r ≡ placed f (split 44 l) → one (number_of r) ≡ one (word_number f ws)
+word_is : (f : List ℕ) (ws : List String) (l : List ℕ) (r : Number) → map ascii ws ≡ split 44 l → number_of r ≡ placed f (split 44 l) → one (number_of r) ≡ one (word_number f ws)
 word_is f ws l r e h = ap one (words_are f ws l r e h)
 
 abbrev pub variables : List String
@@ -47,40 +45,19 @@ variables = "p" ∷ "a" ∷ "r" ∷ "c" ∷ []
 abbrev pub effects : List String
 effects = "permit" ∷ "forbid" ∷ []
 
--- the byte of a word of one
-abbrev pub letter : String → ℕ
-letter w = get_or (ascii w) 0 0
-
-one_byte : (f : List ℕ) → length f ≡ 1 → f ≡ get_or f 0 0 ∷ []
-one_byte [] h = absurd (omega arith)
-one_byte (x ∷ []) h = refl
-one_byte (x ∷ y ∷ f) h = absurd (omega arith)
-
 module _ (f : List ℕ) where
-  pub variable_is : (x n : ℕ) → word_number (x ∷ []) variables ≡ some n → length f ≡ 1 → get_or f 0 0 ≡ x → number_of (N.TheVariants.Value n) ≡ word_number f variables
-  variable_is x n e h q = sym (ap (λ (k : List ℕ). word_number k variables) (one_byte f h ∙ ap (λ (y : ℕ). y ∷ []) q) ∙ e)
-
-  none_same : false ≡ same f (ascii "p") → false ≡ same f (ascii "a") → false ≡ same f (ascii "r") → false ≡ same f (ascii "c") → number_of N.TheVariants.Refused ≡ word_number f variables
+  none_same : false ≡ same f (ascii "p") → false ≡ same f (ascii "a") → false ≡ same f (ascii "r") → false ≡ same f (ascii "c") → number_of None ≡ word_number f variables
   none_same a b c d = rw (← a, ← b, ← c, ← d) refl
 
-  pub variable_long : (length f ≡ 1 → ⊥) → number_of N.TheVariants.Refused ≡ word_number f variables
-  variable_long h = none_same (comparing_never f (ascii "p") h) (comparing_never f (ascii "a") h) (comparing_never f (ascii "r") h) (comparing_never f (ascii "c") h)
-
-  pub variable_none : NoneOf (letter "c" ∷ letter "r" ∷ letter "a" ∷ letter "p" ∷ []) (get_or f 0 0) → number_of N.TheVariants.Refused ≡ word_number f variables
-  variable_none d = none_same (same_last f (ascii "p") 0 d.0.0.0.1) (same_last f (ascii "a") 0 d.0.0.1) (same_last f (ascii "r") 0 d.0.1) (same_last f (ascii "c") 0 d.1)
+  pub variable_long : (length f ≡ 1 → ⊥) → number_of None ≡ word_number f variables
+  variable_long h = none_same (sym (same_length f (ascii "p") h)) (sym (same_length f (ascii "a") h)) (sym (same_length f (ascii "r") h)) (sym (same_length f (ascii "c") h))
 
   module _ (a : Bool) (ha : a ≡ same f (ascii "permit")) where
-    pub effect_permit : a ≡ true → number_of (N.TheVariants.Value PERMIT) ≡ word_number f effects
-    effect_permit t = rw (← ha, t) refl
-
     module _ (b : Bool) (hb : b ≡ same f (ascii "forbid")) (t : a ≡ false) where
-      pub effect_forbid : b ≡ true → number_of (N.TheVariants.Value FORBID) ≡ word_number f effects
-      effect_forbid u = rw (← ha, ← hb, t, u) refl
-
-      pub effect_none : b ≡ false → number_of N.TheVariants.Refused ≡ word_number f effects
+      pub effect_none : b ≡ false → number_of None ≡ word_number f effects
       effect_none u = rw (← ha, ← hb, t, u) refl
 
-module _ (f : List ℕ) (r : N.Number) where
+module _ (f : List ℕ) (r : Number) where
   pub entry_partial : (p : Bool) → p ≡ true → number_of r ≡ placed f (split 44 (ascii "partial")) → one (number_of r) ≡ item (mode_of p) entry f
   entry_partial p e h = rw e (word_is f ("partial" ∷ []) (ascii "partial") r refl h)
 
@@ -89,19 +66,13 @@ module _ (f : List ℕ) (r : N.Number) where
 
 -- ---- marks and indices
 
-pub mark_is : (f k : List ℕ) (b : Bool) → b ≡ same f k → b ≡ true → number_of (N.TheVariants.Value mark) ≡ mark_or (same f k) (index f)
-mark_is f k b e t = rw (← e, t) refl
-
-pub unmarked_is : (f k : List ℕ) (b : Bool) (r : N.Number) → b ≡ same f k → b ≡ false → number_of r ≡ index f → number_of r ≡ mark_or (same f k) (index f)
-unmarked_is f k b r e t h = rw (← e, t) h
-
 -- ---- slots by their numbers
 
 -- the byte `?`
 abbrev question : ℕ
 question = 63
 
-module _ (p : Bool) (s : ℕ) (f : List ℕ) (r : N.Number) where
+module _ (p : Bool) (s : ℕ) (f : List ℕ) (r : Number) where
   pub star_or : STAR ≤ s → number_of r ≡ mark_or (same f (asterisk ∷ [])) (index f) → one (number_of r) ≡ item (mode_of p) (slot_of s) f
   unfolding slot_of
   star_or h q = rw (le-ltb s LINE (omega arith), le-ltb s UNKNOWN (omega arith), le-ltb s DASH (omega arith), le-ltb s STAR h) (ap one q)
@@ -155,7 +126,7 @@ module _ (p : Bool) (s : ℕ) (f : List ℕ) (r : N.Number) where
   slot_letter e q = rw e (word_is f ("p" ∷ "r" ∷ []) (ascii "p,r") r refl q)
 
 pub slot_none : (p : Bool) (s : ℕ) (f : List ℕ) → (s ≡ NUMBER → ⊥) → s < LINE → (s ≡ ENTRY → ⊥) → (s ≡ KIND_LETTER → ⊥) → (s ≡ FIELD_LETTER → ⊥) → (s ≡ BIT → ⊥)
-    → (s ≡ PART_LETTER → ⊥) → (s ≡ EFFECT → ⊥) → (s ≡ DATE → ⊥) → (s ≡ SLOT_LETTER → ⊥) → one (number_of N.TheVariants.Refused) ≡ item (mode_of p) (slot_of s) f
+    → (s ≡ PART_LETTER → ⊥) → (s ≡ EFFECT → ⊥) → (s ≡ DATE → ⊥) → (s ≡ SLOT_LETTER → ⊥) → one (number_of None) ≡ item (mode_of p) (slot_of s) f
 unfolding slot_of below
 slot_none p s f z h a b c d e g i j = rw (lt-ltb s LINE h) (ap (λ (v : Slot). item (mode_of p) v f) (sym (go (ℕ_discrete s NONE))))
   where
@@ -255,15 +226,15 @@ unmarked b f n m e = go (same f (b ∷ [])) refl
 marked_index : (b : ℕ) (f : List ℕ) (n : ℕ) → index (b ∷ []) ≡ none → index f ≡ some n → some n ≡ mark_or (same f (b ∷ [])) (index f)
 marked_index b f n m e = sym (ap (λ (t : Bool). mark_or t (index f)) (unmarked b f n m e) ∙ e)
 
-pub slot_index : (p : Bool) (s : ℕ) (f : List ℕ) (n : ℕ) → LINE ≤ s → index f ≡ some n → one (number_of (N.TheVariants.Value n)) ≡ item (mode_of p) (slot_of s) f
+pub slot_index : (p : Bool) (s : ℕ) (f : List ℕ) (n : ℕ) → LINE ≤ s → index f ≡ some n → one (number_of (Some n)) ≡ item (mode_of p) (slot_of s) f
 slot_index p s f n h e = go p (dec_lt s UNKNOWN) (dec_lt s DASH) (dec_lt s STAR)
   where
-    go : (p : Bool) → Dec (s < UNKNOWN) → Dec (s < DASH) → Dec (s < STAR) → one (number_of (N.TheVariants.Value n)) ≡ item (mode_of p) (slot_of s) f
-    go p (yes l) u v = line_index p s f (N.TheVariants.Value n) l h (sym e)
-    go true (no l) (yes u) v = unknown_partial true s f (N.TheVariants.Value n) u (omega arith) refl (marked_index question f n refl e)
-    go false (no l) (yes u) v = unknown_complete false s f (N.TheVariants.Value n) u (omega arith) refl (sym e)
-    go p (no l) (no u) (yes v) = dash_or p s f (N.TheVariants.Value n) v (omega arith) (marked_index dash f n refl e)
-    go p (no l) (no u) (no v) = star_or p s f (N.TheVariants.Value n) (omega arith) (marked_index asterisk f n refl e)
+    go : (p : Bool) → Dec (s < UNKNOWN) → Dec (s < DASH) → Dec (s < STAR) → one (number_of (Some n)) ≡ item (mode_of p) (slot_of s) f
+    go p (yes l) u v = line_index p s f (Some n) l h (sym e)
+    go true (no l) (yes u) v = unknown_partial true s f (Some n) u (omega arith) refl (marked_index question f n refl e)
+    go false (no l) (yes u) v = unknown_complete false s f (Some n) u (omega arith) refl (sym e)
+    go p (no l) (no u) (yes v) = dash_or p s f (Some n) v (omega arith) (marked_index dash f n refl e)
+    go p (no l) (no u) (no v) = star_or p s f (Some n) (omega arith) (marked_index asterisk f n refl e)
 
 -- ---- an item in words
 
@@ -329,9 +300,9 @@ item_wide : (p : Bool) (s : ℕ) (f l : List ℕ) → item (mode_of p) (slot_of 
 item_wide p s [] l e = no_some (sym (slot_empty p s) ∙ e)
 item_wide p s (x ∷ f) l e = omega arith
 
-module _ (p : Bool) (s k : ℕ) (f w : List ℕ) (m : N.Number) where
+module _ (p : Bool) (s k : ℕ) (f w : List ℕ) (m : Number) where
   -- a long
-  pub put_long : (v : ℕ) → s ≡ NUMBER → number_of m ≡ long f → m ≡ N.TheVariants.Value v → (k + 2 ≤ room) × (room ≤ length w)
+  pub put_long : (v : ℕ) → s ≡ NUMBER → number_of m ≡ long f → m ≡ Some v → (k + 2 ≤ room) × (room ≤ length w)
       → Item (item (mode_of p) (slot_of s) f) f w (set (set w k (v / 4294967296)) (k + 1) (v % 4294967296)) s k 2
   unfolding slot_of
   put_long v e h g l =
@@ -351,17 +322,14 @@ module _ (p : Bool) (s k : ℕ) (f w : List ℕ) (m : N.Number) where
   nothing_put e =
       record { item = e; kept = record { below = refl; rest = refl }; few = omega arith; two = λ z. absurd (omega arith); wide = λ z. absurd (omega arith) }
 
-  pub put_no_long : s ≡ NUMBER → number_of m ≡ long f → m ≡ N.TheVariants.Refused → Item (item (mode_of p) (slot_of s) f) f w w s k 0
+  pub put_no_long : s ≡ NUMBER → number_of m ≡ long f → m ≡ None → Item (item (mode_of p) (slot_of s) f) f w w s k 0
   unfolding slot_of
   put_no_long e h g = let q : long f ≡ none = sym h ∙ ap number_of g in nothing_put (rw (e, q) refl)
 
   module _ (h : one (number_of m) ≡ item (mode_of p) (slot_of s) f) where
-    pub put_bad : m ≡ N.TheVariants.Refused → Item (item (mode_of p) (slot_of s) f) f w w s k 0
-    put_bad g = nothing_put (sym h ∙ ap (λ (n : N.Number). one (number_of n)) g)
-
-    module _ (x : ℕ) (g : m ≡ N.TheVariants.Value x) where
+    module _ (x : ℕ) (g : m ≡ Some x) where
       one_is : item (mode_of p) (slot_of s) f ≡ some (x ∷ [])
-      one_is = sym h ∙ ap (λ (n : N.Number). one (number_of n)) g
+      one_is = sym h ∙ ap (λ (n : Number). one (number_of n)) g
 
       pub one_low : (s ≡ NUMBER → ⊥) → x < past_dates
       one_low z = slot_low p s f x z one_is
@@ -379,20 +347,27 @@ module _ (p : Bool) (s k : ℕ) (f w : List ℕ) (m : N.Number) where
 -- ---- the item at a cursor
 
 -- within a value there is one
-pub item_there : {X : Type 0} (s : List ℕ) (c : Cursor) (i : I.Item) → ItemRead s c i → c.at ≤ length s → i ≡ I.TheVariants.End → X
+pub item_there : {X : Type 0} (s : List ℕ) (c : Cursor) (i : Places.Item) → ItemRead s c i → c.at ≤ length s → i ≡ None → X
 item_there s c i q h g = absurd (omega (arith, ap length (q.items ∙ ap (items_by s c) g), ap length (items_first s c h)))
 
 module _ (p : Bool) (s w : List ℕ) (c : Cursor) (slot k : ℕ) where
-  pub next_index : (d : C.Counted) (n : ℕ) (next : Cursor) → LINE ≤ slot → NumberRead s c d → d ≡ C.TheVariants.Value n next → k + 2 ≤ room → room ≤ length w
+  pub next_index : (d : Counted) (n : ℕ) (next : Cursor) → LINE ≤ slot → NumberRead s c d → d ≡ Some (n, next) → k + 2 ≤ room → room ≤ length w
       → After (mode_of p) s w (set w k n) c.at slot k next.at 1
   next_index d n next h hd g l₁ l₂ =
       let q = numbered s c n next (sym g ∙ hd.is) in
       let f = part s c.at (item_end s c.at) in
-      record { next = q.item.next_at; put = put_one p slot k f w (N.TheVariants.Value n) (slot_index p slot f n h q.index_is) n refl (l₁, l₂) }
+      record { next = q.item.next_at; put = put_one p slot k f w (Some n) (slot_index p slot f n h q.index_is) n refl (l₁, l₂) }
 
-  pub next_part : (i : I.Item) (e : ℕ) (next : Cursor) (f : List ℕ) (r : ℕ) (w₂ : List ℕ) → ItemRead s c i → i ≡ I.TheVariants.Part e next → f ≡ part s c.at e → Item (item (mode_of p) (slot_of slot) f) f w w₂ slot k r
+  pub next_part : (i : Places.Item) (e : ℕ) (next : Cursor) (f : List ℕ) (r : ℕ) (w₂ : List ℕ) → ItemRead s c i → i ≡ Some (e, next) → f ≡ part s c.at e → Item (item (mode_of p) (slot_of slot) f) f w w₂ slot k r
       → After (mode_of p) s w w₂ c.at slot k next.at r
   next_part i e next f r w₂ hi g hf j =
       let q = items_part s c e next (sym g ∙ hi.is) in
       let hf₂ : f ≡ part s c.at (item_end s c.at) = hf ∙ ap (part s c.at) q.end in
       record { next = q.next_at ∙ ap (λ (x : ℕ). x + 1) q.end; put = rw (← hf₂) j }
+
+  pub next_bad : (i : Places.Item) (e : ℕ) (next : Cursor) (f w₂ : List ℕ) → ItemRead s c i → i ≡ Some (e, next) → f ≡ part s c.at e → Item (item (mode_of p) (slot_of slot) f) f w w₂ slot k 0
+      → After (mode_of p) s w w₂ c.at slot k (item_end s c.at + 1) 0
+  next_bad i e next f w₂ hi g hf j =
+      let q = items_part s c e next (sym g ∙ hi.is) in
+      let hf₂ : f ≡ part s c.at (item_end s c.at) = hf ∙ ap (part s c.at) q.end in
+      record { next = refl; put = rw (← hf₂) j }

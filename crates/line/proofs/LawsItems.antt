@@ -81,23 +81,6 @@ pub record Walk (s : List ℕ) (p : Bool) (t : ℕ) (w₀ : List ℕ) (e₀ j₀
   pub room : 2 * k + e₀ ≤ 2 * k₀ + e + 2
   pub close : (t ≡ LONG_VALUE → ⊥) → 2 * k + e₀ ≤ 2 * k₀ + e
 
-pub walk_start : (s : List ℕ) (p : Bool) (t : ℕ) (w : List ℕ) (e j k : ℕ) → e ≤ length s + 1 → j ≤ length (form_of t).items → Walk s p t w e j k w e j k
-walk_start s p t w e j k h l =
-    let z : k - k ≡ 0 = omega arith in
-    record {
-      items = sym (rw z (joined_empty (counted_from (mode_of p) t j (parts_from 44 s e))));
-      kept = record { below = refl; rest = refl };
-      long = refl;
-      grows = omega arith;
-      further = omega arith;
-      near = h;
-      within = omega arith;
-      full = λ y. omega arith;
-      first = λ y z. refl;
-      room = omega arith;
-      close = λ z. omega arith;
-    }
-
 module _ (s : List ℕ) (p : Bool) (t : ℕ) (w₀ : List ℕ) (e₀ j₀ k₀ : ℕ) (w : List ℕ) (e j k : ℕ) (u : Walk s p t w₀ e₀ j₀ k₀ w e j k) (n g : ℕ)
     (hn : (n ≡ length (form_of t).items) × (n ≤ 4)) (hg : (g ≡ length (form_of t).group) × (g ≤ 3)) where
   -- no row

@@ -1,11 +1,12 @@
 -- The row of a whole line. Assumes nothing.
+use Rattle.std.proofs.Common.{Some, None}
 use mathlib.Core.Path.{◌≡◌, refl, sym, ap, ◌∙◌}
 use mathlib.Core.Bool.{Bool, true, false, cond, ◌&&◌, ◌||◌}
 use mathlib.Core.Option.{Option, none, some}
 use mathlib.Core.List.{List, [], ◌∷◌, map}
-use Prim.Native.Nat.{ℕ, zero, suc, ◌+◌, ◌-◌, ◌*◌, ◌≤◌, ◌<◌}
+use Prim.Native.Nat.{ℕ, suc, ◌+◌, ◌-◌, ◌*◌, ◌≤◌, ◌<◌}
 use native.Mathlib.Omega.{arith}
-use borrow.Author.Tests.{ne_eqb, le-leb, lt-leb, leb-true, ltb-true}
+use borrow.Author.Tests.{ne_eqb, le-leb, leb-true, ltb-true}
 use lib.Dec.{leb, ltb, eqb}
 use lib.ListN.{length, get_or, take, drop, set}
 use lib.Seq.{take-set-le, drop-set-lt, lt-length-set, length-take-le}
@@ -16,11 +17,10 @@ use Rattle.sheet.specs.Bytes.{up_to, split, same, printable}
 use Rattle.sheet.specs.Forms.{Form, entry, plain, keys, word_number, forms, form_of, form_in, tag_of, key_of, counted, or_empty, items_from, row_headed, heading, row_of_text, row_of_value, tag, no_key, SHEET, TEXT, DAY, NODE}
 use Rattle.sheet.proofs.reading.Parsed.{all_below, all_below_law}
 use Rattle.scan.specs.declared.Cursor.{Cursor}
-use Rattle.scan.specs.declared.Heading as H
 use Rattle.scan.specs.declared.Line as L
-use Rattle.scan.specs.Places.{place, keyed, heading_of, entered, line_to, line_at, items_at}
+use Rattle.scan.specs.Places.{Heading, place, keyed, heading_of, entered, line_to, line_at, items_at}
 use Rattle.scan.specs.Numbers.{placed}
-use Rattle.scan.proofs.Splits.{from_on}
+use Rattle.scan.proofs.Splits.{from_on, some_pair}
 use Rattle.scan.proofs.Wordlists.{word_number_law, placed_below}
 use Rattle.table.specs.Layout.{text_row}
 use Rattle.forms.specs.Tags.{TEXT_LINE}
@@ -33,9 +33,6 @@ use Rattle.line.proofs.LawsTag.{placed_long, tag_key}
 -- ---- a text in words
 
 module _ (start len top : ℕ) (w : List ℕ) where
-  pub text_long : 128 < len → Text start len w w top 0
-  text_long h = record { words = rw (lt-leb len 128 h) refl; count = rw (lt-leb len 128 h) refl; kept = record { below = refl; rest = refl } }
-
   pub text_row_law : len ≤ 128 → room ≤ length w → top + 3 ≤ room → Text start len w (set (set (set w top TEXT_LINE) (top + 1) start) (top + 1 + 1) len) top 3
   text_row_law h l r =
       let u = set w top TEXT_LINE in
@@ -181,16 +178,6 @@ module _ (sheet v : List ℕ) (a e : ℕ) (hv : v ≡ part sheet (a + 1) e) (low
 
 -- ---- the row of a line by its heading
 
-take_again : (n : ℕ) (l : List ℕ) → take (length (take n l)) l ≡ take n l
-take_again zero l = refl
-take_again (suc n) [] = refl
-take_again (suc n) (x ∷ l) = ap (λ (k : List ℕ). x ∷ k) (take_again n l)
-
-take_short : (n : ℕ) (l : List ℕ) → length (take n l) ≤ length l
-take_short zero l = omega arith
-take_short (suc n) [] = omega arith
-take_short (suc n) (x ∷ l) = omega (arith, take_short n l)
-
 -- how many letters a key has
 unfoldable letters : ℕ → ℕ
 letters k = length (get_or (map ascii keys) k [])
@@ -217,21 +204,22 @@ key_letters f k e =
     let p : placed f (map ascii keys) ≡ some k = sym (word_number_law f keys) ∙ e in
     (omega (arith, placed_below f (map ascii keys) k p, keys_long), placed_long f (map ascii keys) k p)
 
-heading_letters : (l : List ℕ) (k n : ℕ) → H.TheVariants.Keyed k n ≡ heading_of l → (k < no_key) × (n ≡ letters k)
+heading_letters : (l : List ℕ) (k n : ℕ) → Some (k, n) ≡ heading_of l → (k < no_key) × (n ≡ letters k)
 unfolding heading_of
 heading_letters l k n e = go (printable l) (ltb (up_to 61 l) (length l)) refl (word_number (take (up_to 61 l) l) keys) refl e
   where
-    none_of : H.TheVariants.Keyed k n ≡ H.TheVariants.Malformed → (k < no_key) × (n ≡ letters k)
+    none_of : ◌≡◌ {A = Heading} (Some (k, n)) None → (k < no_key) × (n ≡ letters k)
     none_of q = let z : ◌≡◌ {A = ℕ} 0 1 = cc in absurd (omega arith)
 
     go : (t u : Bool) → ltb (up_to 61 l) (length l) ≡ u → (o : Option ℕ) → word_number (take (up_to 61 l) l) keys ≡ o
-        → H.TheVariants.Keyed k n ≡ cond (t && u) (keyed (up_to 61 l) o) H.TheVariants.Malformed → (k < no_key) × (n ≡ letters k)
+        → Some (k, n) ≡ cond (t && u) (keyed (up_to 61 l) o) None → (k < no_key) × (n ≡ letters k)
     go false u d o p q = none_of q
     go true false d o p q = none_of q
     go true true d none p q = none_of q
     go true true d (some j) p q =
-        let z : n ≡ up_to 61 l = cc in
-        let y : k ≡ j = cc in
+        let pair = some_pair q in
+        let z : n ≡ up_to 61 l = pair.1 in
+        let y : k ≡ j = pair.0 in
         let i = ltb-true (up_to 61 l) (length l) d in
         let r = key_letters (take (up_to 61 l) l) k (p ∙ ap some (sym y)) in
         (r.0, omega (arith, r.1, length-take-le (up_to 61 l) l (omega (arith, i)), z))
@@ -245,15 +233,15 @@ module _ (s : List ℕ) (c : Cursor) (k : ℕ) (equals : Cursor) (e : ℕ) (next
       stop : ℕ
       stop = c.at + up_to 10 (drop c.at s)
 
-      go : (t u : Bool) (h : H.Heading) → heading_of (part s c.at stop) ≡ h
+      go : (t u : Bool) (h : Heading) → heading_of (part s c.at stop) ≡ h
           → L.TheVariants.Entry k equals e next ≡ cond t (entered c stop h) (cond u L.TheVariants.Faulty L.TheVariants.End) → (k < no_key) × (equals.at ≡ c.at + letters k)
       go false true h f y = let z : ◌≡◌ {A = ℕ} 0 1 = cc in absurd (omega arith)
       go false false h f y = let z : ◌≡◌ {A = ℕ} 0 1 = cc in absurd (omega arith)
-      go true u H.TheVariants.Malformed f y = let z : ◌≡◌ {A = ℕ} 0 1 = cc in absurd (omega arith)
-      go true u (H.TheVariants.Keyed j n) f y =
+      go true u None f y = let z : ◌≡◌ {A = ℕ} 0 1 = cc in absurd (omega arith)
+      go true u (Some (j, n)) f y =
           let x : equals ≡ place c.line (c.at + n) = cc in
           let z : k ≡ j = cc in
-          let r = heading_letters (part s c.at stop) k n (ap (λ (i : ℕ). H.TheVariants.Keyed i n) z ∙ sym f) in
+          let r = heading_letters (part s c.at stop) k n (ap (λ (i : ℕ). keyed n (some i)) z ∙ sym f) in
           (r.0, omega (arith, r.1, ap (λ (d : Cursor). d.at) x))
 
   -- these are at least three
@@ -275,19 +263,7 @@ words_tag sheet (t ∷ l) = go (eqb t TEXT_LINE)
     go true = refl
     go false = refl
 
-text_form : (form_of TEXT_LINE).key ≡ TEXT
-unfolding form_of forms
-text_form = refl
-
 module _ (sheet l : List ℕ) where
   key_of_law : key_of (row_from_def sheet l) ≡ (form_of (tag l)).key
   unfolding key_of
   key_of_law = ap (λ (t : ℕ). (form_of t).key) (words_tag sheet l)
-
-  -- the words of any other row are the row
-  pub words_row : (key_of (row_from_def sheet l) ≡ TEXT → ⊥) → l ≡ row_from_def sheet l
-  words_row n = by_tag l (λ e. n (key_of_law ∙ ap (λ (t : ℕ). (form_of t).key) e ∙ text_form))
-    where
-      by_tag : (l : List ℕ) → (tag l ≡ TEXT_LINE → ⊥) → l ≡ row_from_def sheet l
-      by_tag [] h = refl
-      by_tag (t ∷ l) h = rw (ne_eqb t TEXT_LINE h) refl

@@ -1,4 +1,6 @@
 -- A row: its tag, then its items. Assumes nothing.
+use Rattle.std.proofs.Common.{Some, None}
+use Rattle.std.specs.Prelude as Std
 use mathlib.Core.Path.{◌≡◌, refl, sym, ap, ◌∙◌}
 use mathlib.Core.Bool.{Bool, true, false, cond}
 use mathlib.Core.Option.{Option, none, some}
@@ -13,7 +15,7 @@ use Rattle.sheet.specs.Bytes.{index}
 use Rattle.sheet.specs.Forms.{Mode, Slot, nothing, slot_at, item, one, joined, items_from, counted, or_empty, tag_of, row_for, no_tag, first_node, NODE}
 use Rattle.words.specs.Log.{room}
 use Rattle.forms.specs.Tags.{SLOT}
-use Rattle.line.specs.Written.{counted_from, Kept, Items, Row}
+use Rattle.line.specs.Written.{Wrote, counted_from, Kept, Items, Row}
 use Rattle.forms.proofs.Table.{no_form_law, node_slot}
 use Rattle.line.proofs.LawsTag.{node_tag}
 use Rattle.line.proofs.LawsItems.{more_words, kept_both, given_some, counted_cons}
@@ -106,3 +108,9 @@ untyped m name f fs e = go (dec_lt (tag_of NODE name) no_tag)
     go : Dec (tag_of NODE name < no_tag) → row_for m (tag_of NODE name) (f ∷ fs) ≡ []
     go (yes h) = let n = node_tag name (tag_of NODE name) refl in typed m (tag_of NODE name) f fs none n.low (n.high h) e
     go (no h) = row_unformed m (tag_of NODE name) (f ∷ fs) (omega arith)
+
+-- ---- what was written, by what it says
+
+pub wrote_as : (P Q : ℕ → Type 0) (o : Std.Option ℕ) → ((r : ℕ) → P r → Q r) → Wrote P o → Wrote Q o
+wrote_as P Q None f h = f 0 h
+wrote_as P Q (Some r) f h = (f r h.0, h.1)

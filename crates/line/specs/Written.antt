@@ -1,20 +1,27 @@
 -- What has been written into lent words.
-use Rattle.std.specs.Prelude.{◌≡◌, cond, List, [], ◌∷◌, ℕ, zero, suc, ◌+◌, ◌-◌, ◌*◌, ◌≤◌, ◌<◌, leb, eqb, length, take, drop}
-use Rattle.std.proofs.Math.Option.{Option, none, some}
+use Rattle.std.specs.Prelude.{◌≡◌, cond, List, [], ◌∷◌, ℕ, zero, suc, ◌+◌, ◌-◌, ◌*◌, ◌≤◌, ◌<◌, leb, eqb, length, take, drop, Option, Some, None}
+use Rattle.std.proofs.Math.Option as Math
+use Rattle.std.proofs.Math.Option.{none, some}
 use Rattle.words.specs.Log.{part, room}
 use Rattle.sheet.specs.Forms.{Mode, Headed, item, items_from, counted, joined, or_empty, form_of, key_of, row_for, row_headed, no_tag, first_node, TEXT, NODE}
 use Rattle.table.specs.Layout.{text_row}
 use Rattle.scan.specs.declared.Cursor.{Cursor}
+use Rattle.line.specs.declared.Head.{Head}
 use Rattle.scan.specs.Places.{item_end, items_at}
 use Rattle.forms.specs.Rows.{NUMBER, slot_of}
 use Rattle.forms.specs.Tags.{TEXT_LINE, LONG_VALUE}
 
 -- the items from place j on of a line of tag t, none where there may not be so many
-abbrev pub counted_from : Mode → ℕ → ℕ → List (List ℕ) → Option (List ℕ)
+abbrev pub counted_from : Mode → ℕ → ℕ → List (List ℕ) → Math.Option (List ℕ)
 counted_from m t j fs = cond (counted t (j + length fs)) (items_from m t j fs) none
 
+-- what is said of so many words: of 0 where nothing was written, and of at least one where something was
+abbrev pub Wrote : (ℕ → Type 0) → Option ℕ → Type 0
+Wrote P None = P 0
+Wrote P (Some r) = P r × (1 ≤ r)
+
 -- none where nothing was written
-abbrev pub given : ℕ → List ℕ → Option (List ℕ)
+abbrev pub given : ℕ → List ℕ → Math.Option (List ℕ)
 given zero l = none
 given (suc n) l = some l
 
@@ -24,7 +31,7 @@ pub record Kept (was is : List ℕ) (k : ℕ) : Type 0 where
   pub rest : drop room is ≡ drop room was
 
 -- an item, of r words from k on
-pub record Item (o : Option (List ℕ)) (bytes was is : List ℕ) (slot k r : ℕ) : Type 0 where
+pub record Item (o : Math.Option (List ℕ)) (bytes was is : List ℕ) (slot k r : ℕ) : Type 0 where
   pub item : o ≡ given r (take r (drop k is))
   pub kept : Kept was is k
   pub few : r ≤ 2
@@ -37,12 +44,16 @@ pub record After (m : Mode) (s was is : List ℕ) (a slot k n r : ℕ) : Type 0 
   pub put : Item (item m (slot_of slot) (part s a (item_end s a))) (part s a (item_end s a)) was is slot k r
 
 -- items of form t from byte e on of so many bytes, up to word r, which is 0 where one is malformed; one form alone has a long, of two words
-pub record Items (o : Option (List ℕ)) (was is : List ℕ) (t k r e bytes : ℕ) : Type 0 where
+pub record Items (o : Math.Option (List ℕ)) (was is : List ℕ) (t k r e bytes : ℕ) : Type 0 where
   pub items : o ≡ given r (take (r - k) (drop k is))
   pub kept : Kept was is k
   pub tight : 2 * r + e ≤ 2 * k + bytes + 3
   pub close : (t ≡ LONG_VALUE → ⊥) → 2 * r + e ≤ 2 * k + bytes + 1
   pub grows : 1 ≤ r → k ≤ r
+
+-- a line of key k and heading hd has no form
+pub record Headless (k : ℕ) (hd : Headed) : Type 0 where
+  pub refused : (m : Mode) → row_headed m k hd ≡ []
 
 -- a line of key k and heading hd, in the bytes s from byte a on, has tag t, and its items stand at the cursor
 pub record Tagged (k : ℕ) (hd : Headed) (s : List ℕ) (a t : ℕ) (items : Cursor) : Type 0 where
@@ -52,15 +63,20 @@ pub record Tagged (k : ℕ) (hd : Headed) (s : List ℕ) (a t : ℕ) (items : Cu
 
 -- the same where the first j items, none or one, are written behind the place of the tag, and so many half words are enough for the row
 pub record Begun (k : ℕ) (hd : Headed) (bytes : ℕ) (s : List ℕ) (a : ℕ) (was is : List ℕ) (top t j : ℕ) (items : Cursor) : Type 0 where
-  pub refused : no_tag ≤ t → (m : Mode) → row_headed m k hd ≡ []
-  pub row : t < no_tag → (m : Mode) → row_headed m k hd ≡ or_empty t (joined (some (take j (drop (top + 1) is))) (counted_from m t j (items_at s items)))
+  pub known : t < no_tag
+  pub row : (m : Mode) → row_headed m k hd ≡ or_empty t (joined (some (take j (drop (top + 1) is))) (counted_from m t j (items_at s items)))
   pub kept : Kept was is top
   pub few : j ≤ 1
   pub node : 1 ≤ j → first_node ≤ t
-  pub places : t < no_tag → j ≤ length (form_of t).items
+  pub places : j ≤ length (form_of t).items
   pub after : a ≤ items.at
   pub near : items.at ≤ length s + 1
-  pub close : t < no_tag → length s + 5 - items.at ≤ bytes
+  pub close : length s + 5 - items.at ≤ bytes
+
+-- what a line begins with, or that it has no form, and nothing was written
+abbrev pub HeadRead : ℕ → Headed → ℕ → List ℕ → ℕ → List ℕ → List ℕ → ℕ → Option Head → Type 0
+HeadRead k hd bytes s a was is top None = Headless k hd × (is ≡ was)
+HeadRead k hd bytes s a was is top (Some h) = Begun k hd bytes s a was is top h.tag h.before h.items
 
 -- a row of r words from top on
 pub record Row (row was is : List ℕ) (top r bytes : ℕ) : Type 0 where

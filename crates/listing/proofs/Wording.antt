@@ -1,12 +1,13 @@
--- Words of eight bytes without their blanks, and the names of operations. Assumes nothing.
-use mathlib.Core.Path.{◌≡◌, refl, sym, ap, ◌∙◌}
-use mathlib.Core.Bool.{Bool, true, ◌||◌}
+-- The names of operations, and the other words. Assumes nothing.
+use mathlib.Core.Path.{◌≡◌, refl}
+use mathlib.Core.Bool.{Bool, true, cond, ◌||◌}
 use mathlib.Core.List.{List, [], ◌∷◌}
-use Prim.Native.Nat.{ℕ, zero, suc, ◌+◌, ◌≤◌, ◌<◌}
+use Prim.Native.Nat.{ℕ, zero, suc, ◌<◌, ◌-◌, ◌≤◌}
+use lib.ListN.{get_or}
+use lib.Dec.{ltb}
 use native.Mathlib.Omega.{arith}
 use native.Mathlib.Decide.{dec_lt}
-use borrow.Author.Tests.{eq-eqb, ne_eqb, le-ltb}
-use lib.ListN.{length, get_or, drop}
+use borrow.Author.Tests.{le-ltb}
 use Rattle.cedar.specs.Numbered.{mem_n}
 use Rattle.sheet.specs.Ascii.{ascii}
 use Rattle.sheet.specs.Bytes.{same}
@@ -15,33 +16,8 @@ use Rattle.forms.specs.Tags.{LIT, ERR, VAR, AND, OR, EQ, LT, LE, ADD, SUB, MUL, 
 use Rattle.sheet.proofs.reading.Parsed.{all_below, all_below_law, past_table}
 use Rattle.sheet.proofs.demand3.TwoSheets.{same_is}
 use Rattle.forms.proofs.Tests.{other, NoneOf, none_of}
-use Rattle.value.proofs.Lists.{uncons, spent}
-use Rattle.print.specs.Written.{Written}
-use Rattle.print.proofs.Writing.{written_as}
-use Rattle.listing.specs.Names.{blank, unpadded, op_name_def}
+use Rattle.listing.specs.Names.{op_name_def}
 use Rattle.listing.specs.Nodes.{letter}
-use Rattle.listing.proofs.Printing.{printing_on, printing_end}
-use Rattle.listing.proofs.Made.{Along}
-
--- ---- a word
-
-module _ (q was is : List ℕ) (at next i : ℕ) (p : Along (unpadded q) (unpadded (drop i q)) was at is next i (length q)) where
-  pub word_on : (out : List ℕ) (then : ℕ) → i < length q → (get_or q i 0 ≡ blank → ⊥) → Written is next (get_or q i 0 ∷ []) out then
-      → Along (unpadded q) (unpadded (drop (i + 1) q)) was at out then (i + 1) (length q)
-  unfolding unpadded
-  word_on out then h n w =
-      record {
-        near = omega arith;
-        print = printing_on p.print (get_or q i 0 ∷ []) (unpadded (drop (i + 1) q)) out then (ap unpadded (uncons q 0 i h) ∙ rw (ne_eqb (get_or q i 0) blank n)) w;
-      }
-
-  pub word_blank : i < length q → get_or q i 0 ≡ blank → Written was at (unpadded q) is next
-  unfolding unpadded
-  word_blank h e = printing_end p.print (ap unpadded (uncons q 0 i h) ∙ rw (eq-eqb (get_or q i 0) blank e))
-
-  pub word_end : length q ≤ i → Written was at (unpadded q) is next
-  unfolding unpadded
-  word_end h = printing_end p.print (ap unpadded (spent q i h))
 
 -- ---- names of operations
 
@@ -66,18 +42,29 @@ no_name t d = go (dec_lt t no_tag)
     go (yes h) = same_is [] (ascii (op_name_def t)) (other (mem_n t op_numbers) (same [] (ascii (op_name_def t))) (none_of op_numbers t d) (all_below_law nameless no_tag t names h))
     go (no h) = rw (le-ltb t first_node (omega arith), past_table t (omega arith)) refl
 
--- a name that the code knows, by its number
-pub named : (t n : ℕ) (q : List ℕ) → t ≡ n → q ≡ ascii (op_name_def n) → q ≡ ascii (op_name_def t)
-named t n q e p = p ∙ ap (λ (j : ℕ). ascii (op_name_def j)) (sym e)
+-- the names in the order of their numbers
+abbrev pub op_names : List (List ℕ)
+op_names =
+    ascii "lit" ∷ ascii "err" ∷ ascii "var" ∷ ascii "and" ∷ ascii "or" ∷ ascii "eq" ∷ ascii "lt" ∷ ascii "le" ∷ ascii "add" ∷ ascii "sub" ∷ ascii "mul" ∷ ascii "in" ∷ ascii "gettag" ∷ ascii "hastag" ∷ ascii "contains" ∷ ascii "all" ∷ ascii "any" ∷ ascii "if" ∷ ascii "is" ∷ ascii "like" ∷ ascii "get" ∷ ascii "has" ∷ ascii "haspath" ∷ ascii "not" ∷ ascii "neg" ∷ ascii "empty" ∷ ascii "set" ∷ ascii "record" ∷ ascii "slot" ∷ []
+
+listed : ℕ → Bool
+listed t = cond (ltb t LIT) true (same (ascii (op_name_def t)) (get_or op_names (t - LIT) []))
+
+all_listed : all_below listed no_tag ≡ true
+unfolding listed op_name_def form_of forms
+all_listed = refl
+
+pub op_named : (t : ℕ) → LIT ≤ t → t ≤ SLOT → ascii (op_name_def t) ≡ get_or op_names (t - LIT) []
+unfolding listed
+op_named t lo hi = same_is (ascii (op_name_def t)) (get_or op_names (t - LIT) []) (rw (le-ltb t LIT lo) at (all_below_law listed no_tag t all_listed (omega arith)))
 
 -- ---- the other words
 
--- bytes by the word that has them
-pub word_is : (was is xs q : List ℕ) (at next : ℕ) → unpadded q ≡ xs → Written was at (unpadded q) is next → Written was at xs is next
-word_is was is xs q at next e w = written_as w e
-
-pub lettered : (x n : ℕ) (q : List ℕ) → x ≡ n → q ≡ 44 ∷ letter n → q ≡ 44 ∷ letter x
-lettered x n q e p = p ∙ ap (λ (y : ℕ). 44 ∷ letter y) (sym e)
+pub letter_said : (x : ℕ) → 44 ∷ letter x ≡ get_or (ascii ",p" ∷ ascii ",a" ∷ ascii ",r" ∷ []) x (ascii ",c")
+letter_said zero = refl
+letter_said (suc zero) = refl
+letter_said (suc (suc zero)) = refl
+letter_said (suc (suc (suc x))) = refl
 
 pub letter_over : (x : ℕ) → (x ≡ PART_P → ⊥) → (x ≡ PART_A → ⊥) → (x ≡ PART_R → ⊥) → 44 ∷ ascii "c" ≡ 44 ∷ letter x
 letter_over zero f g h = absurd (f refl)

@@ -1,5 +1,4 @@
-// The lines of an answer that list what a run made and left: made values and residual nodes, printed from a place of the lent buffer on. Each
-// call gives the place after its bytes.
+// The lines of an answer that list what a run made and left, printed into a lent buffer: made values and residual nodes.
 #![tactic(auto)]
 
 pub mod names;
@@ -7,15 +6,15 @@ pub mod nodes;
 pub mod values;
 
 ghost use Rattle.std.specs.Prelude.{◌∷◌};
-ghost use Rattle.print.specs.Written.{Written};
+ghost use Rattle.print.specs.Out.{Prints};
 ghost use Rattle.sheet.specs.Bytes.{digits};
 
-use print::{byte, number};
+use print::Out;
 
 // A separator and a number.
-pub fn number_after(out: &mut [u8], at: usize, separator: u8, n: u64) -> usize
-    ensures { Written out.old at (separator ∷ digits n) out.new result }
+pub fn number_after(out: &mut Out, separator: u8, n: u64)
+    ensures { Prints out.old (separator ∷ digits n) out.new }
 {
-    let k = byte(out, at, separator);
-    number(out, k, n)
+    out.byte(separator);
+    out.number(n);
 }

@@ -1,104 +1,84 @@
 // The values that a run made, printed as the sheet's values are.
-ghost use Rattle.std.specs.Prelude.{drop};
-ghost use Rattle.print.specs.Written.{Written};
-ghost use Rattle.sheet.specs.Bytes.{commas};
+ghost use Rattle.std.specs.Prelude.{◌∷◌, ◌++◌, drop};
+ghost use Rattle.print.specs.Out.{Prints};
+ghost use Rattle.sheet.specs.Bytes.{commas, digits};
 ghost use Rattle.sheet.specs.State.{entries_of};
 ghost use Rattle.sheet.specs.Answer.{numbers, entry_items, value_items};
 ghost use Rattle.value.specs.Shapes.{shape_row};
 ghost use Rattle.listing.specs.Values.{after, value_line, made_lines};
 
-use crate::names::{letters, shape_name};
+use crate::names::shape_name;
 use crate::number_after;
-use print::{byte, bytes, long};
-use table::{MADE, count, item, row};
-use value::{Shape, members, shape_of};
+use print::Out;
+use table::{MADE, count, items, row};
+use value::{Shape, shape_of};
 
 // Numbers, each after a comma.
-pub fn numbers(out: &mut [u8], at: usize, words: &[u32]) -> usize
-    ensures { Written out.old at (after (numbers words.now)) out.new result }
+pub fn numbers(out: &mut Out, words: &[u32])
+    ensures { Prints out.old (after (numbers words.now)) out.new }
 {
-    let mut i = 0;
-    let mut k = at;
-    while i < words.len() {
-        let x = item(words, i) as u64;
-        k = number_after(out, k, b',', x);
-        i += 1;
+    for &word in words {
+        number_after(out, b',', word as u64);
     }
-    k
+}
+
+// A text and what it has, each after a comma.
+pub fn entry(out: &mut Out, text: u32, has: u64)
+    ensures { Prints out.old ((44 ∷ digits text) ++ (44 ∷ digits has)) out.new }
+{
+    number_after(out, b',', text as u64);
+    number_after(out, b',', has);
 }
 
 // A record's texts and values in turn, each after a comma.
-fn entries(out: &mut [u8], at: usize, words: &[u32]) -> usize
-    ensures { Written out.old at (after (entry_items (entries_of words.now))) out.new result }
+fn entries(out: &mut Out, words: &[u32])
+    ensures { Prints out.old (after (entry_items (entries_of words.now))) out.new }
 {
-    let mut i = 0;
-    let mut k = at;
-    while words.len() - i >= 2 {
-        let x = item(words, i) as u64;
-        let y = item(words, i + 1) as u64;
-        let m = number_after(out, k, b',', x);
-        k = number_after(out, m, b',', y);
-        i += 2;
+    let (pairs, _) = words.as_chunks::<2>();
+    for pair in pairs {
+        entry(out, pair[0], pair[1] as u64);
     }
-    k
 }
 
 // What a value of this shape and these items says after its name, each item after a comma.
-fn said_items(out: &mut [u8], at: usize, shape: Shape, members: &[u32]) -> usize
-    ensures { Written out.old at (after (drop 1 (value_items (shape_row shape members.now)))) out.new result }
+fn said_items(out: &mut Out, shape: Shape, members: &[u32])
+    ensures { Prints out.old (after (drop 1 (value_items (shape_row shape members.now)))) out.new }
 {
     match shape {
-        Shape::Bool(b) => {
-            if b {
-                return number_after(out, at, b',', 1);
-            }
-            number_after(out, at, b',', 0)
+        Shape::Bool(b) => number_after(out, b',', b as u64),
+        Shape::Long(word) => {
+            out.byte(b',');
+            out.long(word);
         }
-        Shape::Long(w) => {
-            let k = byte(out, at, b',');
-            long(out, k, w)
-        }
-        Shape::Text(t) => number_after(out, at, b',', t as u64),
-        Shape::Entity(e, t) => {
-            let k = number_after(out, at, b',', e as u64);
-            number_after(out, k, b',', t as u64)
-        }
-        Shape::Set => numbers(out, at, members),
-        Shape::Record => entries(out, at, members),
+        Shape::Text(text) => number_after(out, b',', text as u64),
+        Shape::Entity(kind, text) => entry(out, kind, text as u64),
+        Shape::Set => numbers(out, members),
+        Shape::Record => entries(out, members),
     }
 }
 
 // What a value of this shape and these items says.
-fn said(out: &mut [u8], at: usize, shape: Shape, members: &[u32]) -> usize
-    ensures { Written out.old at (commas (value_items (shape_row shape members.now))) out.new result }
+fn said(out: &mut Out, shape: Shape, members: &[u32])
+    ensures { Prints out.old (commas (value_items (shape_row shape members.now))) out.new }
 {
-    let word = shape_name(shape);
-    let k = letters(out, at, &word);
-    said_items(out, k, shape, members)
+    out.bytes(shape_name(shape));
+    said_items(out, shape, members);
 }
 
 // The line of a value's row.
-pub fn value_line(out: &mut [u8], at: usize, line: &[u32]) -> usize
-    ensures { Written out.old at (value_line line.now) out.new result }
+pub fn value_line(out: &mut Out, line: &[u32])
+    ensures { Prints out.old (value_line line.now) out.new }
 {
-    let s = shape_of(line);
-    let l = members(line);
-    let k = bytes(out, at, b"value=");
-    let m = said(out, k, s, l);
-    byte(out, m, b'\n')
+    out.bytes(b"value=");
+    said(out, shape_of(line), items(line));
+    out.byte(b'\n');
 }
 
 // The lines of all values made.
-pub fn made_values(out: &mut [u8], at: usize, rows: &[u32]) -> usize
-    ensures { Written out.old at (made_lines rows.now) out.new result }
+pub fn made_values(out: &mut Out, rows: &[u32])
+    ensures { Prints out.old (made_lines rows.now) out.new }
 {
-    let n = count(rows, MADE);
-    let mut i = 0;
-    let mut k = at;
-    while i < n {
-        let r = row(rows, MADE, i);
-        k = value_line(out, k, r);
-        i += 1;
+    for i in 0..count(rows, MADE) {
+        value_line(out, row(rows, MADE, i));
     }
-    k
 }

@@ -8,8 +8,9 @@ use native.Mathlib.Decide.{ℕ_discrete}
 use lib.Dec.{ltb, eqb}
 use lib.ListN.{length, get_or, take, drop, set, replicate, length-set}
 use lib.Seq.{get_or-set_same, get_or-set_other, drop-set-lt, drop-drop}
+use Rattle.std.specs.Prelude.{Some, None}
 use Rattle.words.specs.Log.{zeros}
-use Rattle.words.proofs.Stores.{length_part, zeros_more, zeros_none, get_d_zeros, drop_zeros, length_zeros}
+use Rattle.words.proofs.Stores.{length_part, get_d_zeros, drop_zeros, length_zeros}
 use Rattle.scan.specs.declared.Cursor.{Cursor}
 use Rattle.scan.specs.declared.Line as L
 use Rattle.scan.specs.Places.{reading_by, LineRead}
@@ -118,23 +119,6 @@ module _ (sheet a b : List ℕ) where
       )
 
 -- ---- before the first line
-
--- where clearing stands: the first i of n words are 0
-pub record Zeroing (w₀ : List ℕ) (n : ℕ) (w : List ℕ) (i : ℕ) : Type 0 where
-  pub near : i ≤ n
-  pub long : length w ≡ length w₀
-  pub front : w ≡ zeros i w₀
-
-pub zeroing_start : (w : List ℕ) (n : ℕ) → Zeroing w n w 0
-zeroing_start w n = record { near = omega arith; long = refl; front = zeros_none w }
-
-module _ (w₀ : List ℕ) (n : ℕ) (w : List ℕ) (i : ℕ) (c : Zeroing w₀ n w i) where
-  pub zeroing_on : n ≤ length w₀ → i < n → Zeroing w₀ n (set w i 0) (i + 1)
-  zeroing_on l h =
-      record { near = omega arith; long = length-set w i 0 ∙ c.long; front = ap (λ (x : List ℕ). set x i 0) c.front ∙ zeros_more i w₀ (omega arith) }
-
-  pub zeroing_end : n ≤ i → w ≡ zeros n w₀
-  zeroing_end h = let e : i ≡ n = omega (arith, c.near) in c.front ∙ ap (λ (k : ℕ). zeros k w₀) e
 
 -- what stands past the words that become 0
 drop_past : (n m : ℕ) (w : List ℕ) → drop (n + m) (zeros n w) ≡ drop (n + m) w
@@ -281,13 +265,13 @@ module _ (m : Mode) (sheet a₀ b₀ a b : List ℕ) (c : Cursor) (i : Progress 
   asked = i.left ∙ reading_before m (split 10 bytes) (held sheet a b) c.line
 
   -- an entity line reaches a kind that is not above its own
-  pub line_unfits : (u : ℕ) → u ≡ unfit_line a (drop c.at sheet) → (u ≡ 0 → ⊥) → (n l : ℕ) → n ≡ 7 → l ≡ u → Read (read m sheet) sheet a₀ b₀ a b n l
-  line_unfits u hu z n l hn hl =
-      let x : read m sheet ≡ reads (held sheet a b) 7 (unfit_line a bytes) =
-      asked ∙ line_unfit sheet a b i.closed bytes (first_part (split 10 bytes)) (starts_entity bytes) (reading_on m (split 10 bytes) (held sheet a b) c.line) (λ y. z (hu ∙ y)) in
+  pub line_unfits : (u : ℕ) → Some u ≡ unfit_line a (drop c.at sheet) → Read (read m sheet) sheet a₀ b₀ a b 7 u
+  line_unfits u hu =
+      let x : read m sheet ≡ reads (held sheet a b) 7 u =
+      asked ∙ line_unfit sheet a b i.closed bytes (first_part (split 10 bytes)) (starts_entity bytes) (reading_on m (split 10 bytes) (held sheet a b) c.line) u (sym hu) in
       record {
-        number_is = hn ∙ sym (ap (λ (z : Reading). z.number) x);
-        line_is = hl ∙ hu ∙ sym (ap (λ (z : Reading). z.line) x);
+        number_is = sym (ap (λ (z : Reading). z.number) x);
+        line_is = sym (ap (λ (z : Reading). z.line) x);
         state_is = λ z. absurd (omega arith);
         ready = λ z. i.ready;
         room = λ z. absurd (omega arith);
@@ -296,11 +280,11 @@ module _ (m : Mode) (sheet a₀ b₀ a b : List ℕ) (c : Cursor) (i : Progress 
       }
 
   -- none does
-  module _ (none_unfit : unfit_line a (drop c.at sheet) ≡ 0) (r : L.Line) (q : LineRead sheet c r) where
+  module _ (none_unfit : None ≡ unfit_line a (drop c.at sheet)) (r : L.Line) (q : LineRead sheet c r) where
     by_line : (o : L.Line) → r ≡ o → read m sheet ≡ reading_by m (held sheet a b) c.line sheet o
     by_line o e =
         asked
-        ∙ line_passes sheet a b i.closed bytes (first_part (split 10 bytes)) (starts_entity bytes) (reading_on m (split 10 bytes) (held sheet a b) c.line) none_unfit
+        ∙ line_passes sheet a b i.closed bytes (first_part (split 10 bytes)) (starts_entity bytes) (reading_on m (split 10 bytes) (held sheet a b) c.line) (sym none_unfit)
         ∙ q.reads_on m (held sheet a b) c.line
         ∙ ap (reading_by m (held sheet a b) c.line sheet) e
 
@@ -318,12 +302,12 @@ module _ (m : Mode) (sheet a₀ b₀ a b : List ℕ) (c : Cursor) (i : Progress 
           rest_b = i.rest_b;
         }
 
-    pub line_faulty : r ≡ L.TheVariants.Faulty → (n l : ℕ) → n ≡ 3 → l ≡ c.line → Read (read m sheet) sheet a₀ b₀ a b n l
-    line_faulty e n l hn hl =
+    pub line_faulty : r ≡ L.TheVariants.Faulty → Read (read m sheet) sheet a₀ b₀ a b 3 c.line
+    line_faulty e =
         let x : read m sheet ≡ reads (held sheet a b) 3 c.line = by_line L.TheVariants.Faulty e in
         record {
-          number_is = hn ∙ sym (ap (λ (z : Reading). z.number) x);
-          line_is = hl ∙ sym (ap (λ (z : Reading). z.line) x);
+          number_is = sym (ap (λ (z : Reading). z.number) x);
+          line_is = sym (ap (λ (z : Reading). z.line) x);
           state_is = λ z. absurd (omega arith);
           ready = λ z. i.ready;
           room = λ z. absurd (omega arith);
@@ -362,23 +346,23 @@ module _ (m : Mode) (sheet a₀ b₀ a b : List ℕ) (c : Cursor) (i : Progress 
         unfolding row
         line_does = by_line (L.TheVariants.Entry j equals e next) o ∙ ap (λ (y : ℕ). go_on (held sheet a b) c.line row y (reading m (split 10 (drop next.at sheet)))) (sym t.number)
 
-        pub line_stops : (n ≡ 0 → ⊥) → (x l : ℕ) → x ≡ n → l ≡ c.line → Read (read m sheet) sheet a₀ b₀ a' b' x l
-        line_stops z x l hx hl =
+        pub line_stops : (n ≡ 0 → ⊥) → Read (read m sheet) sheet a₀ b₀ a' b' n c.line
+        line_stops z =
             let s : read m sheet ≡ reads (held sheet a b) n c.line = line_does ∙ go_stops (held sheet a b) c.line row n (reading m (split 10 (drop next.at sheet))) z in
             record {
-              number_is = hx ∙ sym (ap (λ (x : Reading). x.number) s);
-              line_is = hl ∙ sym (ap (λ (x : Reading). x.line) s);
-              state_is = λ y. absurd (z (sym hx ∙ y));
-              ready = λ y. absurd (z (sym hx ∙ y));
-              room = λ y. absurd (z (sym hx ∙ y));
+              number_is = sym (ap (λ (x : Reading). x.number) s);
+              line_is = sym (ap (λ (x : Reading). x.line) s);
+              state_is = λ y. absurd (z y);
+              ready = λ y. absurd (z y);
+              room = λ y. absurd (z y);
               rest_a = t.rest_a ∙ i.rest_a;
               rest_b = t.rest_b ∙ i.rest_b;
             }
 
-        pub line_joins : n ≡ 0 → (seen seen' : List ℕ) → Seen (held sheet a b) seen → (n ≡ 0 → seen' ≡ with_seen seen (row_of_value m j (part sheet (equals.at + 1) e))) → Seen (held sheet a' b') seen'
+        pub line_joins : n ≡ 0 → (seen seen' : List ℕ) → Seen (held sheet a b) seen → seen' ≡ with_seen seen (row_of_value m j (part sheet (equals.at + 1) e)) → Seen (held sheet a' b') seen'
         line_joins z seen seen' h e' =
             let r = row_of_value m j (part sheet (equals.at + 1) e) in
-            subst (Seen (held sheet a' b')) (sym (e' z)) (subst (λ (s : State). Seen s (with_seen seen r)) (sym (t.state z)) (seen_more (held sheet a b) seen r h))
+            subst (Seen (held sheet a' b')) (sym e') (subst (λ (s : State). Seen s (with_seen seen r)) (sym (t.state z)) (seen_more (held sheet a b) seen r h))
 
         pub line_orders : n ≡ 0 → (k : ℕ) → k ≡ j → in_order (held sheet a' b') k ≡ true
         line_orders z k h =
@@ -393,7 +377,7 @@ module _ (m : Mode) (sheet a₀ b₀ a b : List ℕ) (c : Cursor) (i : Progress 
         line_closed z h =
             let w : row_of m (part sheet c.at e) ≡ row_of_value m j (part sheet (equals.at + 1) e) = entry.row m in
             let y : starts (ascii "entity=") (part sheet c.at e) ≡ starts (ascii "entity=") bytes = ap (λ (ls : List (List ℕ)). starts (ascii "entity=") (first_part ls)) (sym entry.lines) ∙ starts_entity bytes in
-            let f = closed_after sheet a b i.closed bytes m (part sheet c.at e) y none_unfit (ap (fault (held sheet a b)) w ∙ sym t.number ∙ z) in
+            let f = closed_after sheet a b i.closed bytes m (part sheet c.at e) y (sym none_unfit) (ap (fault (held sheet a b)) w ∙ sym t.number ∙ z) in
             let g : held sheet a' b' ≡ more (held sheet a b) (row_of m (part sheet c.at e)) = t.state z ∙ ap (more (held sheet a b)) (sym w) in
             subst AllFit (sym g) (f (omega (arith, h, count_held sheet a' b' PRINCIPAL (omega arith), ap (λ (x : State). count x PRINCIPAL) g)))
 

@@ -1,7 +1,7 @@
 -- Sums and differences of longs as differences of natural numbers, when such a difference is in range, and products by size and sign. Assumes nothing.
 use Prim.Native.Nat.{ℕ, zero, suc, ◌+◌, ◌-◌, ◌*◌, ◌/◌, ◌≤◌, ◌<◌}
 use mathlib.Core.Path.{◌≡◌, refl, sym, ◌∙◌, ap, ap₂}
-use mathlib.Core.Bool.{Bool, true, false, cond}
+use mathlib.Core.Bool.{Bool, true, false, cond, not, beq}
 use mathlib.Core.Option.{none, some}
 use native.Mathlib.Nat.{mul-zero, zero-mul, le-div_iff_mul-le, div-lt_iff_lt-mul}
 use native.Mathlib.Omega.{arith}
@@ -9,10 +9,10 @@ use native.Mathlib.Decide.{dec_lt, dec_le}
 use borrow.Author.Tests.{lt-ltb, le-ltb, le-leb, lt-leb, leb-true, ltb-true}
 use lib.Dec.{ltb, leb}
 use lib.IntN.{ℤ, pos, negsuc, sub_ℕ, nat_abs, neg_ℤ, ◌+ℤ◌, ◌-ℤ◌, ◌*ℤ◌, zero-*ℤ}
-use lib.Signed.{lt_z, le_z}
+use lib.Signed.{lt_z}
 use Rattle.cedar.specs.Evaluate.{in_range}
 use Rattle.sheet.specs.Bytes.{half, long_at}
-use Rattle.long.specs.declared.Checked as C
+use Rattle.std.specs.Prelude.{Option, Some, None, SomeIff}
 use Rattle.long.specs.Ranged.{number_of, ranged, opposite}
 
 -- a difference of natural numbers, by its sign
@@ -72,17 +72,6 @@ lt_sub a b c d = go (dec_lt a b) (dec_lt c d) (dec_lt (a + d) (c + b))
     go (no h) (no g) (yes k) = ap₂ lt_z (sub_more a b (omega arith)) (sub_more c d (omega arith)) ∙ lt-ltb (a - b) (c - d) (omega arith) ∙ sym (lt-ltb (a + d) (c + b) k)
     go (no h) (no g) (no k) = ap₂ lt_z (sub_more a b (omega arith)) (sub_more c d (omega arith)) ∙ le-ltb (a - b) (c - d) (omega arith) ∙ sym (le-ltb (a + d) (c + b) (omega arith))
 
-le_sub : (a b c d : ℕ) → le_z (sub_ℕ a b) (sub_ℕ c d) ≡ leb (a + d) (c + b)
-le_sub a b c d = go (dec_lt a b) (dec_lt c d) (dec_le (a + d) (c + b))
-  where
-    go : Dec (a < b) → Dec (c < d) → Dec (a + d ≤ c + b) → le_z (sub_ℕ a b) (sub_ℕ c d) ≡ leb (a + d) (c + b)
-    go (yes h) (yes g) (yes k) = ap₂ le_z (sub_less a b h) (sub_less c d g) ∙ le-leb (d - suc c) (b - suc a) (omega arith) ∙ sym (le-leb (a + d) (c + b) k)
-    go (yes h) (yes g) (no k) = ap₂ le_z (sub_less a b h) (sub_less c d g) ∙ lt-leb (d - suc c) (b - suc a) (omega arith) ∙ sym (lt-leb (a + d) (c + b) (omega arith))
-    go (yes h) (no g) k = ap₂ le_z (sub_less a b h) (sub_more c d (omega arith)) ∙ sym (le-leb (a + d) (c + b) (omega arith))
-    go (no h) (yes g) k = ap₂ le_z (sub_more a b (omega arith)) (sub_less c d g) ∙ sym (lt-leb (a + d) (c + b) (omega arith))
-    go (no h) (no g) (yes k) = ap₂ le_z (sub_more a b (omega arith)) (sub_more c d (omega arith)) ∙ le-leb (a - b) (c - d) (omega arith) ∙ sym (le-leb (a + d) (c + b) k)
-    go (no h) (no g) (no k) = ap₂ le_z (sub_more a b (omega arith)) (sub_more c d (omega arith)) ∙ lt-leb (a - b) (c - d) (omega arith) ∙ sym (lt-leb (a + d) (c + b) (omega arith))
-
 -- ---- a long is a difference
 
 pub long_sub : (w : ℕ) → long_at w ≡ sub_ℕ w half
@@ -122,28 +111,13 @@ ranged_out z e = go (in_range z) e
     go true q = let y : ◌≡◌ {A = ℕ} 0 1 = cc in absurd (omega arith)
     go false q = refl
 
--- a number has one word
-pub long_once : (w v : ℕ) → long_at w ≡ long_at v → w ≡ v
-long_once w v e = go (dec_le w v) (dec_le v w)
-  where
-    here : lt_z (sub_ℕ w half) (sub_ℕ v half) ≡ lt_z (sub_ℕ v half) (sub_ℕ w half)
-    here = ap₂ lt_z (sym (long_sub w)) (sym (long_sub v)) ∙ ap₂ lt_z e (sym e) ∙ ap₂ lt_z (long_sub v) (long_sub w)
-
-    both : ltb (w + half) (v + half) ≡ ltb (v + half) (w + half)
-    both = sym (lt_sub w half v half) ∙ here ∙ lt_sub v half w half
-
-    go : Dec (w ≤ v) → Dec (v ≤ w) → w ≡ v
-    go (yes h) (yes g) = omega arith
-    go (no h) g = absurd (omega (arith, ltb-true (w + half) (v + half) (both ∙ lt-ltb (v + half) (w + half) (omega arith))))
-    go (yes h) (no g) = absurd (omega (arith, ltb-true (v + half) (w + half) (sym both ∙ lt-ltb (w + half) (v + half) (omega arith))))
-
 -- ---- a difference in range, below it and above it
 
-answer : (z : ℤ) (w : ℕ) → in_range z ≡ true → long_at w ≡ z → number_of (C.TheVariants.Value w) ≡ ranged z
+answer : (z : ℤ) (w : ℕ) → in_range z ≡ true → long_at w ≡ z → number_of (Some w) ≡ ranged z
 unfolding ranged
 answer z w h e = rw h (ap some e)
 
-pub answer_outside : (z : ℤ) → in_range z ≡ false → number_of C.TheVariants.Outside ≡ ranged z
+pub answer_outside : (z : ℤ) → in_range z ≡ false → number_of None ≡ ranged z
 unfolding ranged
 answer_outside z h = rw h
 
@@ -154,14 +128,23 @@ sub_in a b w e l = go (dec_lt a b)
     go (yes h) = ap in_range (sub_less a b h) ∙ rw (le-leb (b - suc a) 9223372036854775807 (omega arith))
     go (no h) = ap in_range (sub_more a b (omega arith)) ∙ rw (le-leb (a - b) 9223372036854775807 (omega arith))
 
-pub answer_in : (z : ℤ) (a b w : ℕ) → z ≡ sub_ℕ a b → w + b ≡ a + half → w < 18446744073709551616 → number_of (C.TheVariants.Value w) ≡ ranged z
+answer_in : (z : ℤ) (a b w : ℕ) → z ≡ sub_ℕ a b → w + b ≡ a + half → w < 18446744073709551616 → number_of (Some w) ≡ ranged z
 answer_in z a b w p e l = answer z w (ap in_range p ∙ sub_in a b w e l) (long_sub w ∙ sub_same w half a b (omega arith) ∙ sym p)
 
-pub answer_below : (z : ℤ) (a b : ℕ) → z ≡ sub_ℕ a b → a + half < b → number_of C.TheVariants.Outside ≡ ranged z
+answer_below : (z : ℤ) (a b : ℕ) → z ≡ sub_ℕ a b → a + half < b → number_of None ≡ ranged z
 answer_below z a b p h = answer_outside z (ap in_range (p ∙ sub_less a b (omega arith)) ∙ rw (lt-leb (b - suc a) 9223372036854775807 (omega arith)))
 
-pub answer_above : (z : ℤ) (a b : ℕ) → z ≡ sub_ℕ a b → b + half ≤ a → number_of C.TheVariants.Outside ≡ ranged z
+answer_above : (z : ℤ) (a b : ℕ) → z ≡ sub_ℕ a b → b + half ≤ a → number_of None ≡ ranged z
 answer_above z a b p h = answer_outside z (ap in_range (p ∙ sub_more a b (omega arith)) ∙ rw (lt-leb (a - b) 9223372036854775807 (omega arith)))
+
+-- a difference as the checked operations of words give it: what is d less than x, or d more
+pub answer_less : (r : Option ℕ) (z : ℤ) (a b x d : ℕ) → SomeIff r (d ≤ x) (x - d) → z ≡ sub_ℕ a b → x < 18446744073709551616 → a + half + d ≡ x + b → number_of r ≡ ranged z
+answer_less (Some w) z a b x d c p l e = answer_in z a b w p (omega (arith, c.0, c.1)) (omega (arith, c.0, c.1))
+answer_less None z a b x d c p l e = answer_below z a b p (omega (arith, c))
+
+pub answer_more : (r : Option ℕ) (z : ℤ) (a b x d : ℕ) → SomeIff r (x + d < 18446744073709551616) (x + d) → z ≡ sub_ℕ a b → a + half ≡ x + d + b → number_of r ≡ ranged z
+answer_more (Some w) z a b x d c p e = answer_in z a b w p (omega (arith, c.0, c.1)) (omega (arith, c.0, c.1))
+answer_more None z a b x d c p e = answer_above z a b p (omega (arith, c))
 
 -- ---- the operations, as differences
 
@@ -184,13 +167,6 @@ long_less a b = sym (ap₂ lt_z (long_sub a) (long_sub b) ∙ lt_sub a half b ha
     go (yes h) = lt-ltb (a + half) (b + half) (omega arith) ∙ sym (lt-ltb a b h)
     go (no h) = le-ltb (a + half) (b + half) (omega arith) ∙ sym (le-ltb a b (omega arith))
 
-pub long_at_most : (a b : ℕ) → leb a b ≡ le_z (long_at a) (long_at b)
-long_at_most a b = sym (ap₂ le_z (long_sub a) (long_sub b) ∙ le_sub a half b half ∙ go (dec_le a b))
-  where
-    go : Dec (a ≤ b) → leb (a + half) (b + half) ≡ leb a b
-    go (yes h) = le-leb (a + half) (b + half) (omega arith) ∙ sym (le-leb a b h)
-    go (no h) = lt-leb (a + half) (b + half) (omega arith) ∙ sym (lt-leb a b (omega arith))
-
 -- ---- products, by size and sign
 
 pub long_negative : (w : ℕ) → w < half → long_at w ≡ neg_ℤ (pos (half - w))
@@ -212,10 +188,10 @@ abs_neg : (k : ℕ) → nat_abs (neg_ℤ (pos k)) ≡ k
 abs_neg zero = refl
 abs_neg (suc k) = refl
 
-pub size_negative : (w : ℕ) → w < half → half - w ≡ nat_abs (long_at w)
+size_negative : (w : ℕ) → w < half → half - w ≡ nat_abs (long_at w)
 size_negative w h = sym (ap nat_abs (long_negative w h) ∙ abs_neg (half - w))
 
-pub size_positive : (w : ℕ) → half ≤ w → w - half ≡ nat_abs (long_at w)
+size_positive : (w : ℕ) → half ≤ w → w - half ≡ nat_abs (long_at w)
 size_positive w h = sym (ap nat_abs (long_positive w h))
 
 plus_minus : (m n : ℕ) → pos m *ℤ neg_ℤ (pos n) ≡ neg_ℤ (pos (m * n))
@@ -297,19 +273,28 @@ module _ (a b m n : ℕ) (em : m ≡ nat_abs (long_at a)) (en : n ≡ nat_abs (l
   pub product_high : t ≡ false → m * n ≤ 9223372036854775807
   product_high e = leb-true (m * n) 9223372036854775807 (sym (ap in_range (product false e) ∙ range_up (m * n)) ∙ h)
 
-  pub product_opposed : t ≡ true → number_of (C.TheVariants.Value (9223372036854775808 - m * n)) ≡ ranged (long_at a *ℤ long_at b)
+  pub product_fits : m * n ≤ half
+  product_fits = go t refl
+    where
+      go : (u : Bool) → t ≡ u → m * n ≤ half
+      go true e = product_low e
+      go false e = omega (arith, product_high e)
+
+  pub product_opposed : t ≡ true → number_of (Some (9223372036854775808 - m * n)) ≡ ranged (long_at a *ℤ long_at b)
   product_opposed e = answer (long_at a *ℤ long_at b) (half - m * n) h (long_down (m * n) (product_low e) ∙ sym (product true e))
 
-  pub product_alike : t ≡ false → number_of (C.TheVariants.Value (9223372036854775808 + m * n)) ≡ ranged (long_at a *ℤ long_at b)
+  pub product_alike : t ≡ false → number_of (Some (9223372036854775808 + m * n)) ≡ ranged (long_at a *ℤ long_at b)
   product_alike e =
       answer (long_at a *ℤ long_at b) (half + m * n) h
       (long_positive (half + m * n) (omega arith) ∙ ap pos (omega arith) ∙ sym (product false e))
 
 -- whether two signs differ, by the tests of the code
-pub opposite_first : (a b : ℕ) → a < 9223372036854775808 → leb 9223372036854775808 b ≡ opposite a b
+pub opposite_is : (a b : ℕ) → not (beq (ltb a half) (ltb b half)) ≡ opposite a b
 unfolding opposite
-opposite_first a b h = rw (lt-ltb a half h)
-
-pub opposite_second : (a b : ℕ) → 9223372036854775808 ≤ a → ltb b 9223372036854775808 ≡ opposite a b
-unfolding opposite
-opposite_second a b h = rw (le-ltb a half h)
+opposite_is a b = go (dec_lt a half) (dec_lt b half)
+  where
+    go : Dec (a < half) → Dec (b < half) → not (beq (ltb a half) (ltb b half)) ≡ cond (ltb a half) (leb half b) (ltb b half)
+    go (yes h) (yes g) = rw (lt-ltb a half h, lt-ltb b half g, lt-leb half b g)
+    go (yes h) (no g) = let k : half ≤ b = omega arith in rw (lt-ltb a half h, le-ltb b half k, le-leb half b k)
+    go (no h) (yes g) = let k : half ≤ a = omega arith in rw (le-ltb a half k, lt-ltb b half g)
+    go (no h) (no g) = let k : half ≤ a = omega arith in let l : half ≤ b = omega arith in rw (le-ltb a half k, le-ltb b half l)

@@ -1,63 +1,29 @@
 -- Products by sign in words: the tests of the code are the tests of the cases. Assumes nothing.
-use Prim.Native.Nat.{ℕ, ◌/◌, ◌≤◌, ◌<◌}
-use mathlib.Core.Path.{◌≡◌, refl, sym, ◌∙◌, ap, ap₂}
-use mathlib.Core.Bool.{Bool, true, false, not, ◌||◌}
-use borrow.Author.Tests.{lt-ltb, le-ltb, eqb-true, eq-eqb, ne_eqb, not-true, not-false}
-use lib.Dec.{ltb, eqb}
-use lib.IntN.{ℤ, pos, negsuc, nat_abs, ◌*ℤ◌}
+use Prim.Native.Nat.{ℕ, ◌/◌, ◌<◌}
+use mathlib.Core.Path.{◌≡◌, sym, ◌∙◌, ap, ap₂}
+use mathlib.Core.Bool.{Bool, true, false}
+use borrow.Author.Tests.{not-true, not-false}
+use lib.Dec.{ltb}
+use lib.IntN.{ℤ, pos, nat_abs, ◌*ℤ◌}
 use Rattle.cedar.specs.Evaluate.{in_range}
-use Rattle.cedar.proofs.Tools.{iff, or_left}
-use Rattle.sheet.specs.Bytes.{half, long_at}
-use Rattle.long.specs.Products.{least, eq_z, positive, among, Case, with_zero, with_smallest, both_positive, positive_negative, negative_positive, both_negative, holds, by_signs, case_of, outside, the_case}
+use Rattle.sheet.specs.Bytes.{long_at}
+use Rattle.long.specs.Products.{least, positive, among, Case, with_zero, with_smallest, both_positive, positive_negative, negative_positive, both_negative, holds, by_signs, case_of, outside, the_case}
 use Rattle.long.specs.Ranged.{number_of, ranged}
 use Rattle.long.specs.declared.Case as C
-use Rattle.long.specs.declared.Checked as K
-use Rattle.long.proofs.Longs.{answer_outside, long_once, long_less}
-use Rattle.long.proofs.Products.{case_zero, case_smallest, case_signs, in_case, eq_z_true, Up, Down, up_sized, down_sized, signs_pp, signs_pn, signs_np, signs_nn, size_pp, size_pn, size_np, size_nn, outside_exact}
+use Rattle.std.specs.Prelude.{None}
+use Rattle.long.proofs.Longs.{answer_outside}
+use Rattle.long.proofs.Products.{case_zero, case_smallest, case_signs, in_case, Up, Down, up_sized, down_sized, signs_pp, signs_pn, signs_np, signs_nn, size_pp, size_pn, size_np, size_nn, outside_exact}
 
 -- what the test of the case says of the product
 module _ (a b : ℕ) where
-  pub product_out : (t : Bool) → t ≡ outside (case_of (long_at a) (long_at b)) (long_at a) (long_at b) → t ≡ true → number_of K.TheVariants.Outside ≡ ranged (long_at a *ℤ long_at b)
+  pub product_out : (t : Bool) → t ≡ outside (case_of (long_at a) (long_at b)) (long_at a) (long_at b) → t ≡ true → number_of None ≡ ranged (long_at a *ℤ long_at b)
   product_out t e h =
       answer_outside (long_at a *ℤ long_at b) (not-true (in_range (long_at a *ℤ long_at b)) (sym (outside_exact (long_at a) (long_at b)) ∙ sym e ∙ h))
 
   pub product_inside : (t : Bool) → t ≡ outside (case_of (long_at a) (long_at b)) (long_at a) (long_at b) → t ≡ false → in_range (long_at a *ℤ long_at b) ≡ true
   product_inside t e h = not-false (in_range (long_at a *ℤ long_at b)) (sym (outside_exact (long_at a) (long_at b)) ∙ sym e ∙ h)
 
--- a number is one of two factors
-eq_z_refl : (z : ℤ) → eq_z z z ≡ true
-eq_z_refl (pos n) = eq-eqb n n refl
-eq_z_refl (negsuc n) = eq-eqb n n refl
-
-long_same : (w v : ℕ) → eqb w v ≡ eq_z (long_at w) (long_at v)
-long_same w v =
-    iff (eqb w v) (eq_z (long_at w) (long_at v))
-    (λ e. ap (λ (x : ℕ). eq_z (long_at w) (long_at x)) (sym (eqb-true w v e)) ∙ eq_z_refl (long_at w))
-    (λ e. eq-eqb w v (long_once w v (eq_z_true (long_at w) (long_at v) e)))
-
-pub among_first : (w a b : ℕ) → a ≡ w → true ≡ among (long_at w) (long_at a) (long_at b)
-among_first w a b e = sym (or_left (eq_z (long_at a) (long_at w)) (eq_z (long_at b) (long_at w)) (sym (long_same a w) ∙ eq-eqb a w e))
-
-pub among_second : (w a b : ℕ) → (a ≡ w → ⊥) → eqb b w ≡ among (long_at w) (long_at a) (long_at b)
-among_second w a b n = long_same b w ∙ ap (λ (x : Bool). x || eq_z (long_at b) (long_at w)) (sym (ne_eqb a w n) ∙ long_same a w)
-
--- the signs of two words; 2^63 is the word of zero
-by_signs_law : (a b : ℕ) (p q : Bool) → ltb half a ≡ p → ltb half b ≡ q → by_signs p q ≡ by_signs (positive (long_at a)) (positive (long_at b))
-by_signs_law a b p q e f = ap₂ by_signs (sym e ∙ long_less half a) (sym f ∙ long_less half b)
-
 module _ (a b : ℕ) where
-  pub words_pp : half < a → half < b → both_positive ≡ by_signs (positive (long_at a)) (positive (long_at b))
-  words_pp h k = by_signs_law a b true true (lt-ltb half a h) (lt-ltb half b k)
-
-  pub words_pn : half < a → b ≤ half → positive_negative ≡ by_signs (positive (long_at a)) (positive (long_at b))
-  words_pn h k = by_signs_law a b true false (lt-ltb half a h) (le-ltb half b k)
-
-  pub words_np : a ≤ half → half < b → negative_positive ≡ by_signs (positive (long_at a)) (positive (long_at b))
-  words_np h k = by_signs_law a b false true (le-ltb half a h) (lt-ltb half b k)
-
-  pub words_nn : a ≤ half → b ≤ half → both_negative ≡ by_signs (positive (long_at a)) (positive (long_at b))
-  words_nn h k = by_signs_law a b false false (le-ltb half a h) (le-ltb half b k)
-
   module _ (t : Bool) (et : t ≡ among (pos 0) (long_at a) (long_at b)) where
     pub first_case : t ≡ true → with_zero ≡ case_of (long_at a) (long_at b)
     first_case e = sym (case_zero (long_at a) (long_at b) (sym et ∙ e))
@@ -77,12 +43,6 @@ module _ (a b : ℤ) (m n : ℕ) (em : m ≡ nat_abs a) (en : n ≡ nat_abs b) (
 
     its_test : outside c a b ≡ outside (case_of a b) a b
     its_test = ap (λ (x : Case). outside x a b) (sym e ∙ ek)
-
-  pub zero_test : k ≡ C.TheVariants.WithZero → false ≡ outside (case_of a b) a b
-  zero_test h = its_test with_zero (ap the_case h)
-
-  pub smallest_test : (t : Bool) → t ≡ among (pos 1) a b → k ≡ C.TheVariants.WithSmallest → not t ≡ outside (case_of a b) a b
-  smallest_test t e h = ap not e ∙ its_test with_smallest (ap the_case h)
 
   pub pp_test : k ≡ C.TheVariants.BothPositive → ltb (9223372036854775807 / n) m ≡ outside (case_of a b) a b
   pp_test h =

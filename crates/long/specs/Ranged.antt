@@ -1,14 +1,13 @@
 -- What an answer of the arithmetic stands for: a number of the 64-bit range, or none.
-use Rattle.std.specs.Prelude.{Bool, cond, ℕ, leb, ltb, ℤ}
+use Rattle.std.specs.Prelude.{Bool, cond, ℕ, leb, ltb, ℤ, Option as Answer, Some, None}
 use Rattle.std.proofs.Math.Option.{Option, none, some}
 use Rattle.cedar.specs.Evaluate.{in_range}
 use Rattle.sheet.specs.Bytes.{half, long_at}
-use Rattle.long.specs.declared.Checked as C
 
 -- the number of an answer; none where the result leaves the range, which is an error in Cedar
-abbrev pub number_of : C.Checked → Option ℤ
-number_of (C.TheVariants.Value w) = some (long_at w)
-number_of C.TheVariants.Outside = none
+abbrev pub number_of : Answer ℕ → Option ℤ
+number_of (Some w) = some (long_at w)
+number_of None = none
 
 -- a number in the range
 unfoldable pub ranged : ℤ → Option ℤ

@@ -19,74 +19,43 @@ const ZERO: u64 = 9223372036854775808;
 
 const ONE: u64 = 9223372036854775809;
 
-// The word of a result, or none where it leaves the 64-bit range.
-#[derive(Clone, Copy)]
-pub enum Checked {
-    Value(u64),
-    Outside,
-}
-
-pub fn add(a: u64, b: u64) -> Checked
+// The operations give the word of a result, or none where it leaves the 64-bit range.
+pub fn add(a: u64, b: u64) -> Option<u64>
     ensures { number_of result ≡ ranged (long_at a +ℤ long_at b) }
 {
     if a < HALF {
-        let d = HALF - a;
-        if b < d {
-            return Checked::Outside;
-        }
-        return Checked::Value(b - d);
+        return b.checked_sub(HALF - a);
     }
-    let d = a - HALF;
-    if b > 18446744073709551615 - d {
-        return Checked::Outside;
-    }
-    Checked::Value(b + d)
+    b.checked_add(a - HALF)
 }
 
-pub fn sub(a: u64, b: u64) -> Checked
+pub fn sub(a: u64, b: u64) -> Option<u64>
     ensures { number_of result ≡ ranged (long_at a -ℤ long_at b) }
 {
     if a < b {
-        let d = b - a;
-        if d > HALF {
-            return Checked::Outside;
-        }
-        return Checked::Value(HALF - d);
+        return HALF.checked_sub(b - a);
     }
-    let d = a - b;
-    if d > GREATEST {
-        return Checked::Outside;
-    }
-    Checked::Value(HALF + d)
+    HALF.checked_add(a - b)
 }
 
-pub fn neg(a: u64) -> Checked
+pub fn neg(a: u64) -> Option<u64>
     ensures { number_of result ≡ ranged (neg_ℤ (long_at a)) }
 {
-    if a == 0 {
-        return Checked::Outside;
-    }
-    Checked::Value(18446744073709551615 - a + 1)
+    (u64::MAX - a).checked_add(1)
 }
 
 // The size of a number, without its sign.
 fn size(a: u64) -> u64
     ensures { result ≡ nat_abs (long_at a) }
 {
-    if a < HALF {
-        return HALF - a;
-    }
-    a - HALF
+    a.abs_diff(HALF)
 }
 
 // Whether just one of two numbers is negative.
 fn opposed(a: u64, b: u64) -> bool
     ensures { result ≡ opposite a b }
 {
-    if a < HALF {
-        return HALF <= b;
-    }
-    b < HALF
+    (a < HALF) != (b < HALF)
 }
 
 // The cases of a product, by the signs of its factors, in their order: each holds where those before it do not.
@@ -104,26 +73,19 @@ enum Case {
 fn is_among(w: u64, a: u64, b: u64) -> bool
     ensures { result ≡ among (long_at w) (long_at a) (long_at b) }
 {
-    if a == w {
-        return true;
-    }
-    b == w
+    a == w || b == w
 }
 
 // The pair of signs of two factors.
 fn by_signs(a: u64, b: u64) -> Case
     ensures { the_case result ≡ by_signs (positive (long_at a)) (positive (long_at b)) }
 {
-    if a > ZERO {
-        if b > ZERO {
-            return Case::BothPositive;
-        }
-        return Case::PositiveNegative;
+    match (a > ZERO, b > ZERO) {
+        (true, true) => Case::BothPositive,
+        (true, false) => Case::PositiveNegative,
+        (false, true) => Case::NegativePositive,
+        (false, false) => Case::BothNegative,
     }
-    if b > ZERO {
-        return Case::NegativePositive;
-    }
-    Case::BothNegative
 }
 
 fn case_of(a: u64, b: u64) -> Case
@@ -154,18 +116,17 @@ fn product_outside(a: u64, b: u64) -> bool
     }
 }
 
-pub fn mul(a: u64, b: u64) -> Checked
+pub fn mul(a: u64, b: u64) -> Option<u64>
     ensures { number_of result ≡ ranged (long_at a *ℤ long_at b) }
 {
     if product_outside(a, b) {
-        return Checked::Outside;
+        return None;
     }
-    let m = size(a);
-    let n = size(b);
+    let size = size(a) * size(b);
     if opposed(a, b) {
-        return Checked::Value(HALF - m * n);
+        return Some(HALF - size);
     }
-    Checked::Value(HALF + m * n)
+    Some(HALF + size)
 }
 
 pub fn less(a: u64, b: u64) -> bool

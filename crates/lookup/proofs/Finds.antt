@@ -28,15 +28,14 @@ use Rattle.value.specs.Lines.{value_lines}
 use Rattle.value.specs.Shapes.{shape_of, shape_row, value_found}
 use Rattle.value.specs.declared.Shape.{Shape}
 use Rattle.value.specs.declared.Shape.TheVariants.{Bool as Boolˢ, Long, Text, Entity, Set, Record}
-use Rattle.value.specs.declared.Entry.{Entry}
-use Rattle.value.specs.declared.Entry.TheVariants.{At, Nothing}
+use Rattle.std.specs.Prelude.{Option as Maybe, Some, None}
 use Rattle.value.proofs.Shaped.{shape_row_law}
 use Rattle.value.proofs.Lists.{uncons, spent}
 use Rattle.lookup.specs.Lookups.{value_in, state_in, text_there, is_entity_at, line_at, line_in, line_by, part_of, part_of_line, part_in, part_by, look_found, look_row, look_in, look_over, look_attr, look_by}
 use Rattle.lookup.specs.declared.Part.{Part}
-use Rattle.lookup.specs.declared.Part.TheVariants.{Known, Empty, Unknown}
+use Rattle.lookup.specs.declared.Part.TheVariants.{Known, Unknown}
 use Rattle.lookup.specs.declared.Look.{Look}
-use Rattle.lookup.specs.declared.Look.TheVariants.{At as Atˡ, Missing, Unknown as Unknownˡ, Bad}
+use Rattle.lookup.specs.declared.Look.TheVariants.{At as Atˡ, Missing, Bad}
 use Rattle.lookup.proofs.Shapes.{value_shape, other_record}
 
 -- ---- an entity's line
@@ -76,9 +75,6 @@ module _ (a : List ℕ) (s e : ℕ) where
       length_take_le' zero l = omega arith
       length_take_le' (suc n) [] = omega arith
       length_take_le' (suc n) (x ∷ l) = omega (arith, length_take_le' n l)
-
-  pub word_some : (x : ℕ) → s + 1 < e → x ≡ get_or a (s + 1) 0 → x ≡ get_or (part a s e) 1 0
-  word_some x h ex = ex ∙ sym (part_at a s e 1 (omega arith))
 
   word_other : (t : ℕ) → (t ≡ 0 → ⊥) → (get_or a (s + 2) 0 ≡ t → ⊥) → get_or (part a s e) 2 0 ≡ t → ⊥
   word_other t n m z = go (dec_lt (s + 2) e)
@@ -178,7 +174,7 @@ pub seek_start : (a : List ℕ) (k t n : ℕ) → n ≡ get_or a ENTITY 0 → Se
 seek_start a k t n e = record { all = e; near = omega arith; left = line_from a k t }
 
 module _ (a : List ℕ) (k t n i : ℕ) (g : Seeking a k t n i) where
-  pub seek_end : n ≤ i → line_at (rows_of a ENTITY) Nothing ≡ line_in a k t
+  pub seek_end : n ≤ i → line_at (rows_of a ENTITY) None ≡ line_in a k t
   unfolding entity_from
   seek_end h = sym (g.left ∙ ap (entity_from a k t) (spent (rows_of a ENTITY) i (omega (arith, g.all, count_rows a ENTITY))))
 
@@ -187,7 +183,7 @@ module _ (a : List ℕ) (k t n i : ℕ) (g : Seeking a k t n i) where
     unfolding entity_from
     at_line_law = rw (uncons (rows_of a ENTITY) [] i (omega (arith, g.all, count_rows a ENTITY)), ← er, ← ex, ← eb)
 
-    pub seek_hit : b ≡ true → line_at (rows_of a ENTITY) (At i) ≡ line_in a k t
+    pub seek_hit : b ≡ true → line_at (rows_of a ENTITY) (Some i) ≡ line_in a k t
     seek_hit z = sym (g.left ∙ at_line_law ∙ rw (z, er))
 
     pub seek_on : b ≡ false → Seeking a k t n (i + 1)
@@ -204,7 +200,7 @@ walk_start a k t n b s en hb es =
     record { seeking = seek_start a k t n en; start = es ∙ ap (λ (j : ℕ). get_or a j 0) z }
 
 module _ (a : List ℕ) (k t n i s : ℕ) (g : Walking a k t n i s) where
-  pub walk_end : n ≤ i → line_at (rows_of a ENTITY) Nothing ≡ line_in a k t
+  pub walk_end : n ≤ i → line_at (rows_of a ENTITY) None ≡ line_in a k t
   walk_end = seek_end a k t n i g.seeking
 
   module _ (h : i < n) (b e x : ℕ) (c : Bool) (hb : (b ≡ base ENTITY) × (b < heap)) (ee : e ≡ get_or a (b + i + 1) 0) (ex : x ≡ get_or (part a s e) 1 0) (ec : c ≡ is_entity_at a x k t) where
@@ -214,7 +210,7 @@ module _ (a : List ℕ) (k t n i s : ℕ) (g : Walking a k t n i s) where
     line_here : part a s e ≡ get_or (rows_of a ENTITY) i []
     line_here = row_some a ENTITY i n (base ENTITY) (part a s e) g.seeking.all h refl (row_at_is a (base ENTITY + i) s e (part a s e) g.start next refl)
 
-    pub walk_hit : c ≡ true → line_at (rows_of a ENTITY) (At i) ≡ line_in a k t
+    pub walk_hit : c ≡ true → line_at (rows_of a ENTITY) (Some i) ≡ line_in a k t
     walk_hit = seek_hit a k t n i g.seeking h (part a s e) line_here x ex c ec
 
     pub walk_on : c ≡ false → Walking a k t n (i + 1) e
@@ -224,18 +220,12 @@ module _ (a : List ℕ) (k t n i s : ℕ) (g : Walking a k t n i s) where
 
 -- ---- a part of a line
 
-module _ (c : Bool) (a : List ℕ) (j : ℕ) (e : Entry) where
-  pub part_empty : e ≡ Nothing → c ≡ true → part_of Empty ≡ part_of_line c (line_at (rows_of a ENTITY) e) j
-  part_empty z y = rw (z, y)
-
-  pub part_unlisted : e ≡ Nothing → c ≡ false → part_of Unknown ≡ part_of_line c (line_at (rows_of a ENTITY) e) j
-  part_unlisted z y = rw (z, y)
-
-  module _ (i : ℕ) (z : e ≡ At i) (r : List ℕ) (er : r ≡ get_or (rows_of a ENTITY) i []) (x : ℕ) (ex : x ≡ get_or r (j + 1) 0) where
+module _ (c : Bool) (a : List ℕ) (j : ℕ) (e : Maybe ℕ) where
+  module _ (i : ℕ) (z : e ≡ Some i) (r : List ℕ) (er : r ≡ get_or (rows_of a ENTITY) i []) (x : ℕ) (ex : x ≡ get_or r (j + 1) 0) where
     part_item : part_of_line c (line_at (rows_of a ENTITY) e) j ≡ cond (eqb x mark) none (some (some x))
     part_item =
         let w : x ≡ at (get_or (rows_of a ENTITY) i []) j = ex ∙ ap (λ (m : ℕ). get_or r m 0) (add-one j) ∙ ap (λ (l : List ℕ). at l j) er in
-        ap (λ (o : Entry). part_of_line c (line_at (rows_of a ENTITY) o) j) z ∙ rw (← w)
+        ap (λ (o : Maybe ℕ). part_of_line c (line_at (rows_of a ENTITY) o) j) z ∙ rw (← w)
 
     pub part_unknown : x ≡ mark → part_of Unknown ≡ part_of_line c (line_at (rows_of a ENTITY) e) j
     part_unknown y = sym (part_item ∙ rw (eq-eqb x mark y))
@@ -243,11 +233,11 @@ module _ (c : Bool) (a : List ℕ) (j : ℕ) (e : Entry) where
     pub part_known : (x ≡ mark → ⊥) → part_of (Known x) ≡ part_of_line c (line_at (rows_of a ENTITY) e) j
     part_known y = sym (part_item ∙ rw (ne_eqb x mark y))
 
-pub part_line : (c : Bool) (a : List ℕ) (k t j : ℕ) (e : Entry) (p : Part) → line_at (rows_of a ENTITY) e ≡ line_in a k t → part_of p ≡ part_of_line c (line_at (rows_of a ENTITY) e) j → part_of p ≡ part_in c a k t j
+pub part_line : (c : Bool) (a : List ℕ) (k t j : ℕ) (e : Maybe ℕ) (p : Part) → line_at (rows_of a ENTITY) e ≡ line_in a k t → part_of p ≡ part_of_line c (line_at (rows_of a ENTITY) e) j → part_of p ≡ part_in c a k t j
 unfolding part_in
 part_line c a k t j e p el ep = ep ∙ ap (λ (o : Option (List ℕ)). part_of_line c o j) el
 
-pub part_by_law : (c : Bool) (a : List ℕ) (v k t j : ℕ) (e : Entry) (p : Part) → line_at (rows_of a ENTITY) e ≡ line_by a v k t → part_of p ≡ part_of_line c (line_at (rows_of a ENTITY) e) j → part_of p ≡ part_by c a v k t j
+pub part_by_law : (c : Bool) (a : List ℕ) (v k t j : ℕ) (e : Maybe ℕ) (p : Part) → line_at (rows_of a ENTITY) e ≡ line_by a v k t → part_of p ≡ part_of_line c (line_at (rows_of a ENTITY) e) j → part_of p ≡ part_by c a v k t j
 unfolding part_by
 part_by_law c a v k t j e p el ep = ep ∙ ap (λ (o : Option (List ℕ)). part_of_line c o j) el
 
@@ -258,15 +248,15 @@ module _ (a : List ℕ) (v : ℕ) (q : List ℕ) (s : Shape) (eq : q ≡ get_or 
   unfolding look_row
   look_bad h = rw (value_shape a v q s eq es) (sym (other_record Bad (items q) s (λ e. look_found (entry_of u e)) h))
 
-  module _ (z : s ≡ Record) (l : List ℕ) (el : l ≡ items q) (e : Entry) (ee : value_found e ≡ entry_of u (entries_of l)) where
+  module _ (z : s ≡ Record) (l : List ℕ) (el : l ≡ items q) (e : Maybe ℕ) (ee : value_found e ≡ entry_of u (entries_of l)) where
     look_row_law : look_row (value_in a v) u ≡ look_found (entry_of u (entries_of l))
     unfolding look_row
     look_row_law = rw (value_shape a v q s eq es, z, el)
 
-    pub look_missing : e ≡ Nothing → Missing ≡ look_row (value_in a v) u
+    pub look_missing : e ≡ None → Missing ≡ look_row (value_in a v) u
     look_missing y = sym (look_row_law ∙ ap look_found (sym ee ∙ ap value_found y))
 
-    pub look_found_law : (x : ℕ) → e ≡ At x → Atˡ x ≡ look_row (value_in a v) u
+    pub look_found_law : (x : ℕ) → e ≡ Some x → Atˡ x ≡ look_row (value_in a v) u
     look_found_law x y = sym (look_row_law ∙ ap look_found (sym ee ∙ ap value_found y))
 
   -- or among the attributes of an entity, which p gives
@@ -302,11 +292,5 @@ module _ (a : List ℕ) (v : ℕ) (q : List ℕ) (s : Shape) (eq : q ≡ get_or 
   by_entity c k t p r z ep e = over_entity (λ i j. part_by c a v i j 1) k t (part_of p) r z ep e
 
 module _ (a : List ℕ) (k u : ℕ) (p : Part) where
-  pub look_unknown : p ≡ Unknown → Unknownˡ k ≡ look_in a k (part_of p) u
-  look_unknown e = rw e
-
-  pub look_empty : p ≡ Empty → Missing ≡ look_in a k (part_of p) u
-  look_empty e = rw e
-
   pub look_known : (n : ℕ) (r : Look) → p ≡ Known n → r ≡ look_row (value_in a n) u → r ≡ look_in a k (part_of p) u
   look_known n r e h = rw e h

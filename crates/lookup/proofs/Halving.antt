@@ -3,7 +3,7 @@ use mathlib.Core.Path.{◌≡◌, refl, sym, ap, ◌∙◌, subst}
 use mathlib.Core.Bool.{Bool, true, false, cond, ◌&&◌}
 use mathlib.Core.Option.{some}
 use mathlib.Core.List.{List, []}
-use Prim.Native.Nat.{ℕ, zero, suc, ◌+◌, ◌-◌, ◌*◌, ◌/◌, ◌≤◌, ◌<◌}
+use Prim.Native.Nat.{ℕ, suc, ◌+◌, ◌*◌, ◌/◌, ◌≤◌, ◌<◌}
 use native.Mathlib.Omega.{arith}
 use borrow.Author.Tests.{eq-eqb, ne_eqb, eqb-true, lt-ltb, le-ltb, ltb-true, le-leb, lt-leb}
 use lib.Dec.{eqb, leb, ltb}
@@ -14,8 +14,7 @@ use Rattle.sheet.specs.State.{State, lines_of, value_at}
 use Rattle.sheet.specs.Content.{look_up, line_given, n_env}
 use Rattle.table.specs.Layout.{rows_of, held, lines_held}
 use Rattle.table.proofs.Rows.{count_rows}
-use Rattle.value.specs.declared.Entry.{Entry}
-use Rattle.value.specs.declared.Entry.TheVariants.{At}
+use Rattle.std.specs.Prelude.{Option as Maybe, Some}
 use Rattle.lookup.specs.Lookups.{HALF, HALVINGS, state_in, is_entity_at, line_at, line_in, nearer, led_from, is_line, line_or, line_by, env_by}
 
 -- ---- of two lines the nearer
@@ -57,24 +56,14 @@ pub record Halving (E : List (List ℕ)) (v n step i : ℕ) : Type 0 where
   pub short : step ≤ HALF
   pub low : i + 64 * n ≤ 448
 
-pub halving_start : (a : List ℕ) (v : ℕ) → Halving (rows_of a ENTITY) v HALVINGS HALF 0
-halving_start a v = record { left = refl; short = omega arith; low = omega arith }
-
 module _ (a : List ℕ) (v n step i : ℕ) (g : Halving (rows_of a ENTITY) v n step i) where
-  pub halving_room : 0 < n → i + step < 4294967296
-  halving_room h = omega (arith, g.short, g.low)
-
-  pub halving_on : 0 < n → (j : ℕ) → j ≡ nearer (rows_of a ENTITY) v i (i + step) → Halving (rows_of a ENTITY) v (n - 1) (step / 2) j
+  pub halving_on : (m : ℕ) → n ≡ m + 1 → (j : ℕ) → j ≡ nearer (rows_of a ENTITY) v i (i + step) → Halving (rows_of a ENTITY) v m (step / 2) j
   unfolding led_from
-  halving_on h j e = go n h g.left g.low
-    where
-      go : (m : ℕ) → 0 < m → led_from (rows_of a ENTITY) v m step i ≡ led_from (rows_of a ENTITY) v HALVINGS HALF 0 → i + 64 * m ≤ 448 → Halving (rows_of a ENTITY) v (m - 1) (step / 2) j
-      go zero k l o = absurd (omega arith)
-      go (suc m) k l o =
-          let z : suc m - 1 ≡ m = omega arith in
-          let y = nearer_low (rows_of a ENTITY) v i (i + step) (omega arith) in
-          let s = g.short in
-          rw z (record { left = ap (led_from (rows_of a ENTITY) v m (step / 2)) e ∙ l; short = omega (arith, s); low = omega (arith, y, e, s, o) })
+  halving_on m h j e =
+      let z : n ≡ suc m = omega (arith, h) in
+      let l : led_from (rows_of a ENTITY) v (suc m) step i ≡ led_from (rows_of a ENTITY) v HALVINGS HALF 0 = rw z at g.left in
+      let y = nearer_low (rows_of a ENTITY) v i (i + step) (omega arith) in
+      record { left = ap (led_from (rows_of a ENTITY) v m (step / 2)) e ∙ l; short = omega (arith, g.short); low = omega (arith, y, e, g.short, g.low) }
 
   pub halving_end : n ≤ 0 → i ≡ led_from (rows_of a ENTITY) v HALVINGS HALF 0
   unfolding led_from
@@ -101,10 +90,10 @@ module _ (a : List ℕ) (v k t i : ℕ) (ei : i ≡ led_from (rows_of a ENTITY) 
   unfolding line_by
   by_line = ap (line_or a v k t) (sym ei) ∙ ap (λ (c : Bool). cond c (some (get_or (rows_of a ENTITY) i [])) (line_in a k t)) (sym eb)
 
-  pub line_led : b ≡ true → line_at (rows_of a ENTITY) (At i) ≡ line_by a v k t
+  pub line_led : b ≡ true → line_at (rows_of a ENTITY) (Some i) ≡ line_by a v k t
   line_led e = sym (by_line ∙ ap (λ (c : Bool). cond c (some (get_or (rows_of a ENTITY) i [])) (line_in a k t)) e)
 
-  pub line_found_law : b ≡ false → (r : Entry) → line_at (rows_of a ENTITY) r ≡ line_in a k t → line_at (rows_of a ENTITY) r ≡ line_by a v k t
+  pub line_found_law : b ≡ false → (r : Maybe ℕ) → line_at (rows_of a ENTITY) r ≡ line_in a k t → line_at (rows_of a ENTITY) r ≡ line_by a v k t
   line_found_law e r h = h ∙ sym (by_line ∙ ap (λ (c : Bool). cond c (some (get_or (rows_of a ENTITY) i [])) (line_in a k t)) e)
 
 -- ---- each line is the first of its entity

@@ -1,5 +1,5 @@
 -- Look-ups of entities and of the fields of records, by number.
-use Rattle.std.specs.Prelude.{Bool, cond, ◌&&◌, ◌||◌, List, [], ℕ, zero, suc, ◌+◌, ◌/◌, eqb, leb, ltb, get_or, length}
+use Rattle.std.specs.Prelude.{Option as Maybe, Some, None, Bool, cond, ◌&&◌, ◌||◌, List, [], ℕ, zero, suc, ◌+◌, ◌/◌, eqb, leb, ltb, get_or, length}
 use Rattle.std.proofs.Math.Option.{Option, none, some}
 use Rattle.cedar.specs.Rows.{Row, rbool, rlong, rtext, rent, rset, rrec, same_row}
 use Rattle.cedar.specs.Numbered.{NEnv, r_rec, entry_of, row_at}
@@ -8,8 +8,6 @@ use Rattle.sheet.specs.State.{State, value_row}
 use Rattle.sheet.specs.Content.{given, look_up, line_given, rows_in}
 use Rattle.table.specs.Layout.{base, held, rows_of}
 use Rattle.value.specs.Lines.{value_lines}
-use Rattle.value.specs.declared.Entry.{Entry}
-use Rattle.value.specs.declared.Entry.TheVariants.{At, Nothing}
 use Rattle.lookup.specs.declared.Part.{Part}
 use Rattle.lookup.specs.declared.Part.TheVariants.{Known, Empty, Unknown}
 use Rattle.lookup.specs.declared.Look.{Look}
@@ -38,9 +36,9 @@ is_entity_at a v k t = same_row (value_row (get_or (rows_of a VALUE) v [])) (ren
 unfoldable pub line_in : List ℕ → ℕ → ℕ → Option (List ℕ)
 line_in a k t = look_up (state_in a) k t
 
-abbrev pub line_at : List (List ℕ) → Entry → Option (List ℕ)
-line_at rows (At i) = some (get_or rows i [])
-line_at rows Nothing = none
+abbrev pub line_at : List (List ℕ) → Maybe ℕ → Option (List ℕ)
+line_at rows (Some i) = some (get_or rows i [])
+line_at rows None = none
 
 -- ---- the line of an entity by its value number, which lines ascend by
 

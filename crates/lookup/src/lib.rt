@@ -9,8 +9,8 @@ ghost use Rattle.table.specs.Layout.{rows_of};
 ghost use Rattle.lookup.specs.Lookups.{value_in, ATTRIBUTES, TAGS, HALF, HALVINGS, text_there, is_entity_at, line_at, line_in, nearer, led_from, is_line, line_by, part_of, part_of_line, part_by, look_row, look_in, look_by};
 
 use forms::{ENTITY, MARK, VALUE};
-use table::{base_of, count, item, row};
-use value::{Entry, Shape, entry_of, members, row_of, shape_of};
+use table::{base_of, count, item, items, row};
+use value::{Shape, entry_of, row_of, shape_of};
 use words::read;
 
 // The most texts of a sheet: a table by text has so many words.
@@ -85,24 +85,20 @@ pub fn first_of(rows: &[u32], start: usize, end: usize) -> u32
 }
 
 // The first line of an entity: each line begins where the one before ends.
-pub fn find_entity(rows: &[u32], kind: u32, text: u32) -> Entry
+pub fn find_entity(rows: &[u32], kind: u32, text: u32) -> Option<u32>
     ensures { line_at (rows_of rows.now ENTITY) result ≡ line_in rows.now kind text }
 {
     let n = count(rows, ENTITY);
     let b = base_of(ENTITY);
     let mut s = read(rows, b) as usize;
-    let mut i = 0;
-    loop {
-        if i >= n {
-            break Entry::Nothing;
-        }
+    for i in 0..n {
         let e = read(rows, b + i as usize + 1) as usize;
         if is_entity(rows, first_of(rows, s, e), kind, text) {
-            break Entry::At(i);
+            return Some(i);
         }
         s = e;
-        i += 1;
     }
+    None
 }
 
 // Of line `line` and a later one the later, where it is there and its entity's number is at most `value`.
@@ -124,11 +120,9 @@ fn led_by(rows: &[u32], value: u32) -> u32
 {
     let mut line = 0;
     let mut step = HALF;
-    let mut left = HALVINGS;
-    while left > 0 {
+    for _ in 0..HALVINGS {
         line = nearer(rows, value, line, line + step);
         step /= 2;
-        left -= 1;
     }
     line
 }
@@ -147,22 +141,22 @@ fn is_line(rows: &[u32], value: u32, kind: u32, text: u32, line: u32) -> bool
 }
 
 // The line of entity `value`, of this kind and text, by its number. Where halving does not lead to it, it is looked for.
-pub fn line_of(rows: &[u32], value: u32, kind: u32, text: u32) -> Entry
+pub fn line_of(rows: &[u32], value: u32, kind: u32, text: u32) -> Option<u32>
     ensures { line_at (rows_of rows.now ENTITY) result ≡ line_by rows.now value kind text }
 {
     let line = led_by(rows, value);
     if is_line(rows, value, kind, text, line) {
-        return Entry::At(line);
+        return Some(line);
     }
     find_entity(rows, kind, text)
 }
 
 // The item at `place` of an entity's line as it was found, its attributes or its tags.
-pub fn part_at(rows: &[u32], complete: bool, line: Entry, place: usize) -> Part
+pub fn part_at(rows: &[u32], complete: bool, line: Option<u32>, place: usize) -> Part
     requires { place ≤ TAGS }
     ensures { part_of result ≡ part_of_line complete (line_at (rows_of rows.now ENTITY) line) place }
 {
-    let Entry::At(i) = line else {
+    let Some(i) = line else {
         if complete {
             return Part::Empty;
         }
@@ -203,7 +197,7 @@ pub fn look_at(rows: &[u32], value: u32, text: u32) -> Look
     let Shape::Record = s else {
         return Look::Bad;
     };
-    let Entry::At(x) = entry_of(members(r), text) else {
+    let Some(x) = entry_of(items(r), text) else {
         return Look::Missing;
     };
     Look::At(x)

@@ -1,30 +1,18 @@
 -- The functions of `met` do what their definitions say. Assumes nothing.
-use mathlib.Core.Path.{◌≡◌, refl, sym, ◌∙◌, ap, subst}
+use mathlib.Core.Path.{◌≡◌, refl, subst}
 use mathlib.Core.Bool.{Bool, true, false, not}
 use mathlib.Core.List.{List}
 use Prim.Native.Nat.{ℕ, zero, suc, ◌+◌, ◌<◌, ◌≤◌}
 use native.Mathlib.Omega.{arith}
-use borrow.Author.Tests.{eq-eqb, eqb-true, eqb-false, ltb-true, ltb-false, not-false}
+use borrow.Author.Tests.{eqb-true, eqb-false, ltb-true, ltb-false, not-false}
 use lib.Dec.{ltb, eqb}
-use lib.Bits.{bit_and, bit_or, and_le_l, and_le_r, or_add_and}
-use lib.ListN.{length, get_or, set, length-set}
-use lib.Seq.{set_out}
-use Rattle.cedar.proofs.Tools.{no_true}
-use Rattle.met.specs.Noting.{RUN, Entered, Run, RunMet, Skipped}
+use lib.Bits.{bit_or, and_le_l, and_le_r, or_add_and}
+use lib.ListN.{length, get_or}
+use Rattle.met.specs.Noting.{RUN, Run, RunMet, Skipped}
 
 pub not_none : (x : ℕ) → (x ≡ 0 → ⊥) → 1 ≤ x
 not_none zero f = absurd (f refl)
 not_none (suc x) f = omega arith
-
-module _ (k v : ℕ) (w m : List ℕ) where
-  pub note_far : length w ≤ v → (m' : List ℕ) → m' ≡ set m k 1 → Entered k v w m w m' false
-  note_far h m' e = record { old = λ z. no_true z; new = λ z. (sym (set_out w v 1 h), record { near = λ l. absurd (omega (arith, h, l)); far = λ l. e }) }
-
-  pub note_old : (get_or w v 0 ≡ 0 → ⊥) → Entered k v w m w m true
-  note_old e = record { old = λ z. (not_none (get_or w v 0) e, refl, refl); new = λ z. no_true (sym z) }
-
-  pub note_new : v < length w → Entered k v w m (set w v 1) m false
-  note_new h = let z = length-set w v 1 in record { old = λ y. no_true y; new = λ y. (refl, record { near = λ l. refl; far = λ l. absurd (omega (arith, z, h, l)) }) }
 
 -- what holds of each of so many words of a list
 run_of : (p : ℕ → Type 0) (l : List ℕ) (i : ℕ) → p (get_or l i 0) → p (get_or l (i + 1) 0) → p (get_or l (i + 2) 0) → p (get_or l (i + 3) 0) → p (get_or l (i + 4) 0) → p (get_or l (i + 5) 0) → p (get_or l (i + 6) 0) → p (get_or l (i + 7) 0) → Run p l i
@@ -41,7 +29,7 @@ run_of p l i a b c d e f g h k m n = on i a m (λ z. on (i + 1) b (omega (arith,
 either_most : (x y : ℕ) → (x ≤ bit_or x y) × (y ≤ bit_or x y)
 either_most x y = let a = or_add_and x y in let b = and_le_r x y in let c = and_le_l x y in (omega (arith, a, b), omega (arith, a, c))
 
--- of eight numbers: none is greater than their bits together, and none is 0 where they share bits
+-- of eight numbers none is greater than their bits together
 module _ (a b c d e f g h : ℕ) where
   bits_most : (r : ℕ) → r ≡ bit_or (bit_or (bit_or (bit_or (bit_or (bit_or (bit_or a b) c) d) e) f) g) h → (a ≤ r) × (b ≤ r) × (c ≤ r) × (d ≤ r) × (e ≤ r) × (f ≤ r) × (g ≤ r) × (h ≤ r)
   bits_most r z =
@@ -50,28 +38,9 @@ module _ (a b c d e f g h : ℕ) where
       let (p₆, q₆) = either_most (bit_or (bit_or (bit_or (bit_or (bit_or a b) c) d) e) f) g in let (p₇, q₇) = either_most (bit_or (bit_or (bit_or (bit_or (bit_or (bit_or a b) c) d) e) f) g) h in
       (omega (arith, z, p₁, p₂, p₃, p₄, p₅, p₆, p₇), omega (arith, z, q₁, p₂, p₃, p₄, p₅, p₆, p₇), omega (arith, z, q₂, p₃, p₄, p₅, p₆, p₇), omega (arith, z, q₃, p₄, p₅, p₆, p₇), omega (arith, z, q₄, p₅, p₆, p₇), omega (arith, z, q₅, p₆, p₇), omega (arith, z, q₆, p₇), omega (arith, z, q₇))
 
-  bits_least : (r : ℕ) → r ≡ bit_and (bit_and (bit_and (bit_and (bit_and (bit_and (bit_and a b) c) d) e) f) g) h → 1 ≤ r → (1 ≤ a) × (1 ≤ b) × (1 ≤ c) × (1 ≤ d) × (1 ≤ e) × (1 ≤ f) × (1 ≤ g) × (1 ≤ h)
-  bits_least r z l =
-      let p₁ = and_le_l a b in let q₁ = and_le_r a b in let p₂ = and_le_l (bit_and a b) c in let q₂ = and_le_r (bit_and a b) c in
-      let p₃ = and_le_l (bit_and (bit_and a b) c) d in let q₃ = and_le_r (bit_and (bit_and a b) c) d in
-      let p₄ = and_le_l (bit_and (bit_and (bit_and a b) c) d) e in let q₄ = and_le_r (bit_and (bit_and (bit_and a b) c) d) e in
-      let p₅ = and_le_l (bit_and (bit_and (bit_and (bit_and a b) c) d) e) f in let q₅ = and_le_r (bit_and (bit_and (bit_and (bit_and a b) c) d) e) f in
-      let p₆ = and_le_l (bit_and (bit_and (bit_and (bit_and (bit_and a b) c) d) e) f) g in let q₆ = and_le_r (bit_and (bit_and (bit_and (bit_and (bit_and a b) c) d) e) f) g in
-      let p₇ = and_le_l (bit_and (bit_and (bit_and (bit_and (bit_and (bit_and a b) c) d) e) f) g) h in let q₇ = and_le_r (bit_and (bit_and (bit_and (bit_and (bit_and (bit_and a b) c) d) e) f) g) h in
-      (omega (arith, z, l, p₁, p₂, p₃, p₄, p₅, p₆, p₇), omega (arith, z, l, q₁, p₂, p₃, p₄, p₅, p₆, p₇), omega (arith, z, l, q₂, p₃, p₄, p₅, p₆, p₇), omega (arith, z, l, q₃, p₄, p₅, p₆, p₇), omega (arith, z, l, q₄, p₅, p₆, p₇), omega (arith, z, l, q₅, p₆, p₇), omega (arith, z, l, q₆, p₇), omega (arith, z, l, q₇))
-
 module _ (l : List ℕ) (i : ℕ) where
   pub run_bits : Run (λ x. x ≤ bit_or (bit_or (bit_or (bit_or (bit_or (bit_or (bit_or (get_or l i 0) (get_or l (i + 1) 0)) (get_or l (i + 2) 0)) (get_or l (i + 3) 0)) (get_or l (i + 4) 0)) (get_or l (i + 5) 0)) (get_or l (i + 6) 0)) (get_or l (i + 7) 0)) l i
   run_bits = let (a, b, c, d, e, f, g, h) = bits_most (get_or l i 0) (get_or l (i + 1) 0) (get_or l (i + 2) 0) (get_or l (i + 3) 0) (get_or l (i + 4) 0) (get_or l (i + 5) 0) (get_or l (i + 6) 0) (get_or l (i + 7) 0) (bit_or (bit_or (bit_or (bit_or (bit_or (bit_or (bit_or (get_or l i 0) (get_or l (i + 1) 0)) (get_or l (i + 2) 0)) (get_or l (i + 3) 0)) (get_or l (i + 4) 0)) (get_or l (i + 5) 0)) (get_or l (i + 6) 0)) (get_or l (i + 7) 0)) refl in run_of (λ x. x ≤ bit_or (bit_or (bit_or (bit_or (bit_or (bit_or (bit_or (get_or l i 0) (get_or l (i + 1) 0)) (get_or l (i + 2) 0)) (get_or l (i + 3) 0)) (get_or l (i + 4) 0)) (get_or l (i + 5) 0)) (get_or l (i + 6) 0)) (get_or l (i + 7) 0)) l i a b c d e f g h
-
-  pub run_near : (w : List ℕ) (r : ℕ) → Run (λ x. x ≤ r) l i → r < length w → Run (λ x. x < length w) l i
-  run_near w r f h k m n = let z = f k m n in omega (arith, z, h)
-
-  pub run_some : (w : List ℕ) (b : Bool) → b ≡ not (eqb (bit_and (bit_and (bit_and (bit_and (bit_and (bit_and (bit_and (get_or w (get_or l i 0) 0) (get_or w (get_or l (i + 1) 0) 0)) (get_or w (get_or l (i + 2) 0) 0)) (get_or w (get_or l (i + 3) 0) 0)) (get_or w (get_or l (i + 4) 0) 0)) (get_or w (get_or l (i + 5) 0) 0)) (get_or w (get_or l (i + 6) 0) 0)) (get_or w (get_or l (i + 7) 0) 0)) 0) → RunMet w l i b
-  run_some w b eb = record { is = λ z. let (a, b, c, d, e, f, g, h) = bits_least (get_or w (get_or l i 0) 0) (get_or w (get_or l (i + 1) 0) 0) (get_or w (get_or l (i + 2) 0) 0) (get_or w (get_or l (i + 3) 0) 0) (get_or w (get_or l (i + 4) 0) 0) (get_or w (get_or l (i + 5) 0) 0) (get_or w (get_or l (i + 6) 0) 0) (get_or w (get_or l (i + 7) 0) 0) (bit_and (bit_and (bit_and (bit_and (bit_and (bit_and (bit_and (get_or w (get_or l i 0) 0) (get_or w (get_or l (i + 1) 0) 0)) (get_or w (get_or l (i + 2) 0) 0)) (get_or w (get_or l (i + 3) 0) 0)) (get_or w (get_or l (i + 4) 0) 0)) (get_or w (get_or l (i + 5) 0) 0)) (get_or w (get_or l (i + 6) 0) 0)) (get_or w (get_or l (i + 7) 0) 0)) refl (not_none (bit_and (bit_and (bit_and (bit_and (bit_and (bit_and (bit_and (get_or w (get_or l i 0) 0) (get_or w (get_or l (i + 1) 0) 0)) (get_or w (get_or l (i + 2) 0) 0)) (get_or w (get_or l (i + 3) 0) 0)) (get_or w (get_or l (i + 4) 0) 0)) (get_or w (get_or l (i + 5) 0) 0)) (get_or w (get_or l (i + 6) 0) 0)) (get_or w (get_or l (i + 7) 0) 0)) (λ y. no_true (sym (ap not (eq-eqb (bit_and (bit_and (bit_and (bit_and (bit_and (bit_and (bit_and (get_or w (get_or l i 0) 0) (get_or w (get_or l (i + 1) 0) 0)) (get_or w (get_or l (i + 2) 0) 0)) (get_or w (get_or l (i + 3) 0) 0)) (get_or w (get_or l (i + 4) 0) 0)) (get_or w (get_or l (i + 5) 0) 0)) (get_or w (get_or l (i + 6) 0) 0)) (get_or w (get_or l (i + 7) 0) 0)) 0 y)) ∙ sym eb ∙ z))) in run_of (λ x. 1 ≤ get_or w x 0) l i a b c d e f g h }
-
-  pub run_none : (w : List ℕ) → RunMet w l i false
-  run_none w = record { is = λ z. no_true z }
 
 pub skip_start : (w l : List ℕ) (i : ℕ) → i ≤ length l → Skipped w l i i
 skip_start w l i h = record { more = omega arith; near = h; is = λ k a b. absurd (omega (arith, a, b)) }

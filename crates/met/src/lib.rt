@@ -1,32 +1,13 @@
 // Tables by value, a byte each, in which parents are noted as they are met, and lists of parents asked by them.
 #![tactic(auto)]
 
-ghost use Rattle.std.specs.Prelude.{◌≡◌, ◌+◌, ◌≤◌, ◌<◌, length, get_or, set};
+ghost use Rattle.std.specs.Prelude.{◌≡◌, ◌+◌, ◌≤◌, ◌<◌, length};
 ghost use Rattle.met.specs.Noting.{RUN, Entered, Run, RunMet, Skipped};
 
 use words::put;
 
 // So many parents of a list are asked at a time, as most were met before.
 const RUN: usize = 8;
-
-// A byte of a table, 0 past its end.
-pub fn byte(bytes: &[u8], i: usize) -> u8
-    ensures { result ≡ get_or bytes.now i 0 }
-{
-    if i < bytes.len() {
-        return bytes[i];
-    }
-    0
-}
-
-// Another byte in the place of one; nothing is stored past the end.
-pub fn put_byte(bytes: &mut [u8], i: usize, byte: u8)
-    ensures { bytes.new ≡ set bytes.old i byte }
-{
-    if i < bytes.len() {
-        bytes[i] = byte;
-    }
-}
 
 // Notes a parent: whether it was noted before. For one whose number the table does not have there is a mark, at place `far`.
 pub fn note(met: &mut [u8], marks: &mut [u32], far: usize, value: u32) -> bool
@@ -49,6 +30,7 @@ fn bits(list: &[u32], from: usize) -> u32
     requires { from + RUN ≤ length list.now }
     ensures { Run (λ x. x ≤ result) list.now from }
 {
+    // kept: eight places written out are one test without a branch; a fold over them says no more.
     list[from]
         | list[from + 1]
         | list[from + 2]
@@ -93,6 +75,7 @@ fn runs(met: &[u8], list: &[u32], from: usize) -> usize
     ensures { Skipped met.now list.now from result }
 {
     let mut i = from;
+    // kept: the place where fewer than eight are left is the answer, which a range's steps do not give.
     while i + RUN <= list.len() {
         if !run_met(met, list, i) {
             return i;

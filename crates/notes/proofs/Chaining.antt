@@ -11,6 +11,7 @@ use borrow.Author.Tests.{eqb-true, eqb-false}
 use lib.Dec.{eqb}
 use lib.ListN.{length, get_or, drop, set, replicate, length-set, length-drop}
 use lib.Seq.{get_or-set_same, get_or-set_other, get_or-drop, drop-nil, drop-cons, drop-drop}
+use Rattle.std.specs.Prelude.{Some, None}
 use Rattle.cedar.specs.Rows.{rent}
 use Rattle.words.specs.Log.{part}
 use Rattle.words.proofs.Stores.{part_at}
@@ -18,7 +19,6 @@ use Rattle.sheet.specs.Forms.{at, VALUE, ENTITY}
 use Rattle.sheet.specs.State.{value_row}
 use Rattle.table.specs.Layout.{base, rows_of, heap}
 use Rattle.table.proofs.Rows.{count_rows, row_none, row_some, row_at_is}
-use Rattle.value.specs.declared.Entry.TheVariants.{At, Nothing}
 use Rattle.value.proofs.Lists.{spent}
 use Rattle.lookup.specs.Lookups.{is_entity_at, line_at, line_in}
 use Rattle.notes.specs.Chains.{text_of, left_of, Clear, Chained}
@@ -98,9 +98,6 @@ blank (suc n) (suc j) = blank n j
 pub clear_none : (n : ℕ) → Clear (replicate n 0)
 clear_none n = record { is = blank n }
 
-pub chained_none : (a : List ℕ) (E : List (List ℕ)) (links : List ℕ) → Chained a E 0 [] links
-chained_none a E links = record { first = λ t h. absurd (omega (arith, h)); next = λ j i h l z. absurd (omega (arith, z)) }
-
 chained_start : (a : List ℕ) (E : List (List ℕ)) (n : ℕ) (heads links : List ℕ) → length E ≤ n → Clear heads → Chained a E n heads links
 unfolding left_of
 chained_start a E n heads links h c = record { first = λ t l. c.is t ∙ sym (ap (left_of a t) (spent E n h)); next = λ j i l m z. absurd (omega (arith, h, i, l)) }
@@ -168,11 +165,6 @@ chaining_start a heads links n b end c en hb ee = record {
 }
 
 module _ (a heads₀ links₀ heads links : List ℕ) (n i end : ℕ) (g : Chaining a heads₀ links₀ heads links n i end) where
-  pub chaining_end : i ≤ 0 → Chained a (rows_of a ENTITY) 0 heads links
-  chaining_end h =
-      let z : 0 ≡ i = omega arith in
-      rw z g.chained
-
   pub chaining_on : 0 < i → (b s v t y : ℕ) (heads' links' : List ℕ) → (b ≡ base ENTITY) × (b < heap) → s ≡ get_or a (b + (i - 1)) 0 → v ≡ get_or (part a s end) 1 0 → t ≡ text_of a v
       → y ≡ get_or heads t 0 → links' ≡ set links (i - 1) y → heads' ≡ set heads t (n - (i - 1)) → Chaining a heads₀ links₀ heads' links' n (i - 1) s
   chaining_on h b s v t y heads' links' hb es ev et ey el eh = record {
@@ -218,15 +210,21 @@ chase_from a k t n i left s e = record {
     place : i + (length (drop i (rows_of a ENTITY)) - left_of a t (drop i (rows_of a ENTITY))) ≡ n - left
     place = omega (arith, e, most, long, s.near)
 
+-- what `Chains` says of its tables
+pub chained_by : (a heads links : List ℕ) → ((t : ℕ) → t < length heads → get_or heads t 0 ≡ left_of a t (rows_of a ENTITY))
+    → ((j : ℕ) → j < length (rows_of a ENTITY) → j < length links → text_of a (at (get_or (rows_of a ENTITY) j []) 0) < length heads → get_or links j 0 ≡ left_of a (text_of a (at (get_or (rows_of a ENTITY) j []) 0)) (drop (suc j) (rows_of a ENTITY)))
+    → Chained a (rows_of a ENTITY) 0 heads links
+chained_by a heads links f g = record { first = f; next = λ j i. g j }
+
 pub chase_start : (a : List ℕ) (k t n left : ℕ) (heads links : List ℕ) → Chained a (rows_of a ENTITY) 0 heads links → t < length heads → n ≡ get_or a ENTITY 0 → left ≡ get_or heads t 0 → Chasing a k t n left
 chase_start a k t n left heads links c h en el = chase_from a k t n 0 left (seek_start a k t n en) (el ∙ c.first t h)
 
 module _ (a : List ℕ) (k t n left : ℕ) (g : Chasing a k t n left) where
-  pub chase_end : left ≤ 0 → line_at (rows_of a ENTITY) Nothing ≡ line_in a k t
+  pub chase_end : left ≤ 0 → line_at (rows_of a ENTITY) None ≡ line_in a k t
   chase_end h = seek_end a k t n (n - left) g.seeking (omega arith)
 
   module _ (h : 0 < left) (r : List ℕ) (er : r ≡ get_or (rows_of a ENTITY) (n - left) []) (x : ℕ) (ex : x ≡ get_or r 1 0) (b : Bool) (eb : b ≡ is_entity_at a x k t) where
-    pub chase_hit : b ≡ true → line_at (rows_of a ENTITY) (At (n - left)) ≡ line_in a k t
+    pub chase_hit : b ≡ true → line_at (rows_of a ENTITY) (Some (n - left)) ≡ line_in a k t
     chase_hit z = seek_hit a k t n (n - left) g.seeking (omega (arith, h, g.low)) r er x ex b eb z
 
     module _ (z : b ≡ false) (heads links : List ℕ) (c : Chained a (rows_of a ENTITY) 0 heads links) (ht : t < length heads) (hl : n ≤ length links) (next : ℕ) (en : next ≡ get_or links (n - left) 0) where

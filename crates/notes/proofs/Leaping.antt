@@ -9,10 +9,10 @@ use borrow.Author.Tests.{ne_eqb, leb-true, le-leb, lt-leb}
 use lib.Dec.{leb}
 use lib.ListN.{length, get_or, take, drop, length-drop}
 use lib.Seq.{take_all}
+use Rattle.std.specs.Prelude.{Option as Maybe}
 use Rattle.cedar.specs.Numbered.{entry_of, pick_n}
 use Rattle.sheet.specs.State.{entries_of}
 use Rattle.value.specs.Shapes.{value_found}
-use Rattle.value.specs.declared.Entry.{Entry}
 use Rattle.value.proofs.Lists.{Going, uncons, uncons2, spent}
 use Rattle.notes.specs.Leaps.{rising, Even, Skips}
 
@@ -80,5 +80,5 @@ skips_on l u i n e g k h s =
     let z : i + n ≡ (g.half + k.half) + (g.half + k.half) = omega (arith, g.even, k.even) in
     record { half = g.half + k.half; even = z; near = omega (arith, h); is = rising_skip (g.half + k.half) 0 l u (i + n) e z (omega (arith, h)) s }
 
-pub skips_found : (l : List ℕ) (u i : ℕ) (y : Entry) → Skips l u i → value_found y ≡ entry_of u (entries_of (take (length l - i) (drop i l))) → value_found y ≡ entry_of u (entries_of l)
+pub skips_found : (l : List ℕ) (u i : ℕ) (y : Maybe ℕ) → Skips l u i → value_found y ≡ entry_of u (entries_of (take (length l - i) (drop i l))) → value_found y ≡ entry_of u (entries_of l)
 skips_found l u i y g e = e ∙ ap (λ (k : List ℕ). entry_of u (entries_of k)) (take_all (length l - i) (drop i l) (omega (arith, length-drop i l))) ∙ sym g.is

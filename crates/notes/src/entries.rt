@@ -5,7 +5,7 @@ ghost use Rattle.sheet.specs.State.{entries_of};
 ghost use Rattle.value.specs.Shapes.{value_found};
 ghost use Rattle.notes.specs.Leaps.{rising, Even, Skips};
 
-use value::{Entry, entry_of};
+use value::entry_of;
 
 // The words that a leap passes, two for each entry: of a long one and of a short one.
 const FAR: usize = 128;
@@ -54,7 +54,7 @@ fn skip(words: &[u32], text: u32, from: usize, leap: usize) -> usize
 }
 
 // The value that ascending entries have for a text.
-pub fn entry_rising(words: &[u32], text: u32) -> Entry
+pub fn entry_rising(words: &[u32], text: u32) -> Option<u32>
     requires { rising 0 words.now ≡ true }
     ensures { value_found result ≡ entry_of text (entries_of words.now) }
 {

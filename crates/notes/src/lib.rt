@@ -4,135 +4,104 @@
 pub mod chains;
 pub mod entries;
 
-ghost use Rattle.std.specs.Prelude.{◌≡◌, ◌+◌};
-ghost use Rattle.sheet.specs.Forms.{ENTITY};
-ghost use Rattle.table.specs.Layout.{rows_of};
+ghost use Rattle.std.specs.Prelude.{◌≡◌};
 ghost use Rattle.lookup.specs.Lookups.{ATTRIBUTES, part_of, part_in};
-ghost use Rattle.notes.specs.Chains.{Chained};
 ghost use Rattle.notes.specs.Noted.{Spans, Noted, Placed, Looked};
 
-use crate::chains::find_chained;
+use crate::chains::Chains;
 use crate::entries::{entry_rising, rises};
-use forms::{ENTITY, VALUE};
+use forms::VALUE;
 use lookup::{ATTRIBUTES, Look, Part, look_at, part_at};
 use table::{base_of, count};
-use value::{Entry, Shape, row_of, shape_of};
-use words::{cut, put, read};
-
-// The attributes of an entity, by chains of lines.
-fn attributes(
-    rows: &[u32],
-    complete: bool,
-    kind: u32,
-    text: u32,
-    heads: &[u32],
-    links: &[u32],
-) -> Part
-    requires { Chained rows.now (rows_of rows.now ENTITY) 0 heads.now links.now }
-    ensures { part_of result ≡ part_in complete rows.now kind text ATTRIBUTES }
-{
-    part_at(
-        rows,
-        complete,
-        find_chained(rows, heads, links, kind, text),
-        ATTRIBUTES,
-    )
-}
+use value::{Shape, row_of, shape_of};
+use words::{cut, item_or, put, read};
 
 // Where the entries of a record stand in the words: from `start` up to `end`, which is 0 where it is not known or their texts do not ascend.
+// kept: an Option would take half as many words again, and each long path clears a thousand of them.
 #[derive(Clone, Copy)]
-struct Span {
+pub struct Span {
     start: u32,
     end: u32,
 }
 
+// Where no entries are known to stand.
+pub const NOWHERE: Span = Span { start: 0, end: 0 };
+
+// The attributes of an entity, by chains of lines.
+fn attributes(chains: &Chains, complete: bool, kind: u32, text: u32) -> Part
+    ensures { part_of result ≡ part_in complete chains.now.rows.now kind text ATTRIBUTES }
+{
+    part_at(chains.rows, complete, chains.find(kind, text), ATTRIBUTES)
+}
+
 // Where the entries of record `value` of the sheet stand.
 fn span_of(rows: &[u32], value: u32) -> Span
-    ensures { Spans rows.now value result.start result.end }
+    ensures { Spans rows.now value result }
 {
     if value >= count(rows, VALUE) {
-        return Span { start: 0, end: 0 };
+        return NOWHERE;
     }
     let b = base_of(VALUE) + value as usize;
     let start = read(rows, b);
     let end = read(rows, b + 1);
     if start >= end {
-        return Span { start: 0, end: 0 };
+        return NOWHERE;
     }
     let s = shape_of(cut(rows, start as usize, end as usize));
     let Shape::Record = s else {
-        return Span { start: 0, end: 0 };
+        return NOWHERE;
     };
-    if !rises(cut(rows, start as usize + 1, end as usize)) {
-        return Span { start: 0, end: 0 };
+    let start = start + 1;
+    if !rises(cut(rows, start as usize, end as usize)) {
+        return NOWHERE;
     }
-    Span {
-        start: start + 1,
-        end: end,
-    }
+    Span { start, end }
 }
 
 // Notes that the attributes of `value` are the entries of record `source`.
-fn note(rows: &[u32], value: u32, source: u32, from: &mut [u32], to: &mut [u32])
-    ensures { Placed rows.now value source from.old to.old from.new to.new }
+fn note(rows: &[u32], value: u32, source: u32, spans: &mut [Span])
+    ensures { Placed rows.now value source spans.old spans.new }
 {
-    let s = span_of(rows, source);
-    put(from, value as usize, s.start);
-    put(to, value as usize, s.end);
+    put(spans, value as usize, span_of(rows, source));
 }
 
 // `text` among the attributes of a record or an entity, which are noted.
-fn look_new(
-    rows: &[u32],
-    complete: bool,
-    value: u32,
-    text: u32,
-    heads: &[u32],
-    links: &[u32],
-    from: &mut [u32],
-    to: &mut [u32],
-) -> Look
-    requires chained { Chained rows.now (rows_of rows.now ENTITY) 0 heads.now links.now }
-    requires noted { Noted complete rows.now from.old to.old }
-    ensures { Looked complete rows.now value text from.new to.new result }
+fn look_new(chains: &Chains, complete: bool, value: u32, text: u32, spans: &mut [Span]) -> Look
+    requires { Noted complete chains.now.rows.now spans.old }
+    ensures { Looked complete chains.now.rows.now value text spans.new result }
 {
-    let s = shape_of(row_of(rows, value as usize));
+    let s = shape_of(row_of(chains.rows, value as usize));
     let Shape::Entity(k, t) = s else {
-        note(rows, value, value, from, to);
-        return look_at(rows, value, text);
+        note(chains.rows, value, value, spans);
+        return look_at(chains.rows, value, text);
     };
-    let p = attributes(rows, complete, k, t, heads, links);
-    match p {
+    match attributes(chains, complete, k, t) {
         Part::Unknown => Look::Unknown(k),
         Part::Empty => Look::Missing,
         Part::Known(n) => {
-            note(rows, value, n, from, to);
-            look_at(rows, n, text)
+            note(chains.rows, value, n, spans);
+            look_at(chains.rows, n, text)
         }
     }
 }
 
 // The same, by what was noted.
 pub fn look_noted(
-    rows: &[u32],
+    chains: &Chains,
     complete: bool,
     value: u32,
     text: u32,
-    heads: &[u32],
-    links: &[u32],
-    from: &mut [u32],
-    to: &mut [u32],
+    spans: &mut [Span],
 ) -> Look
-    requires chained { Chained rows.now (rows_of rows.now ENTITY) 0 heads.now links.now }
-    requires noted { Noted complete rows.now from.old to.old }
-    ensures { Looked complete rows.now value text from.new to.new result }
+    requires { Noted complete chains.now.rows.now spans.old }
+    ensures { Looked complete chains.now.rows.now value text spans.new result }
 {
-    let end = read(to, value as usize);
-    if end == 0 {
-        return look_new(rows, complete, value, text, heads, links, from, to);
+    let span = item_or(spans, value as usize, NOWHERE);
+    if span.end == 0 {
+        return look_new(chains, complete, value, text, spans);
     }
-    let start = read(from, value as usize);
-    let Entry::At(x) = entry_rising(cut(rows, start as usize, end as usize), text) else {
+    let entries = cut(chains.rows, span.start as usize, span.end as usize);
+    let Some(x) = entry_rising(entries, text) else {
         return Look::Missing;
     };
     Look::At(x)

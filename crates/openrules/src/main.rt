@@ -5,11 +5,13 @@
 // error.
 #![tactic(auto)]
 
-ghost use Rattle.std.specs.Prelude.{◌≡◌, ◌≤◌, ◌<◌, length};
+ghost use Rattle.std.specs.Prelude.{◌≡◌, ◌≤◌, ◌<◌, ℕ, List, length};
+ghost use Rattle.std.specs.Fn.{FnOnceReturnsAtMut};
+ghost use Rattle.print.specs.Written.{Written};
 ghost use Rattle.authorizer.specs.Called.{Called};
-ghost use Rattle.firm.specs.Parts.{rows_in};
+ghost use Rattle.firm.specs.Parts.{decision_in, rows_in};
 ghost use Rattle.firm.specs.Words.{rows_of_words};
-ghost use Rattle.wording.specs.Worded.{entry_of};
+ghost use Rattle.wording.specs.Worded.{entry_of, refusal, quote_text};
 ghost use Rattle.streams.specs.Filled.{IsPrefixLen};
 ghost use Rattle.openrules.specs.Shown.{shown, shown_finished, shown_page, shown_preview, shown_firm, shown_load, Shows};
 
@@ -18,15 +20,15 @@ use finish::finish;
 use firm::{ROW, firm_in_words};
 use page::page;
 use preview::preview;
-use scan::{Number, find, front, rest, same_bytes};
+use print::Out;
 use std::env::{Env, FillError};
 use std::fs::File;
 use std::io::{Error, ErrorKind, Read};
 use std::{fs, io, str};
 use streams::read_full;
 use testload::load;
-use wording::{at_most, number_of, quote_lines, refused, says_complete};
-use words::{ROOM, store};
+use wording::{at_most, number_of, says_complete};
+use words::ROOM;
 
 // The call of the entry that the sheet's first line names.
 fn call(sheet: &[u8], work1: &mut [u32], work2: &mut [u32], out: &mut [u8]) -> Returned
@@ -46,6 +48,24 @@ fn words() -> [u32; ROOM]
     ensures { 16384 ≡ length result }
 {
     [0; ROOM]
+}
+
+// The line of a refusal at the start of a buffer, and its length.
+fn refused(buffer: &mut [u8], number: u32, line: usize, length: usize) -> usize
+    ensures { Written buffer.old 0 (refusal number line length) buffer.new result }
+{
+    let mut out = Out::new(buffer);
+    wording::refused(&mut out, number, line, length);
+    out.len()
+}
+
+// The lines of a whole firm's decisions, likewise.
+fn quote_lines(buffer: &mut [u8], group: u32, rows: &[u32]) -> usize
+    ensures { Written buffer.old 0 (quote_text (decision_in group) (rows_in (rows_of_words rows.now))) buffer.new result }
+{
+    let mut out = Out::new(buffer);
+    wording::quote_lines(&mut out, group, rows);
+    out.len()
 }
 
 // What is printed for a sheet, at the start of the buffer, and its length.
@@ -110,7 +130,7 @@ fn quoted(rows: &mut [u32], sheet: &[u8], out: &mut [u8; SPACE]) -> usize
     if f.number != 0 {
         return refused(out, f.number, f.line, f.length);
     }
-    quote_lines(out, 0, f.group, rows)
+    quote_lines(out, f.group, rows)
 }
 
 // What is printed for a seed and a number of policies, likewise.
@@ -125,10 +145,28 @@ fn loaded(seed: u64, policies: u64, out: &mut [u8; SPACE]) -> usize
     refused(out, l.number, l.line, l.length)
 }
 
-// ---- the words
+// ---- what is read and printed
 
 // The bytes of a sheet that are read: one more than it may have, so that a longer one is seen.
 const INPUT: usize = 16385;
+
+// A sheet, in the buffer.
+fn sheet_from<'a, R: Read>(from: &mut R, buffer: &'a mut [u8; INPUT]) -> &'a [u8] {
+    let n = read_full(from, buffer);
+    &buffer[..n]
+}
+
+// What a call shows at the start of a buffer, printed.
+fn print_shown<C: FnOnce(&mut [u8; SPACE]) -> usize>(rt: &impl Print, show: C)
+    requires callable { C.IsAlwaysCallable show }
+    requires within { (was : List ℕ) (n : ℕ) (is : List ℕ) → FnOnceReturnsAtMut C.FnOnce show was n is → IsPrefixLen n is }
+{
+    let mut out = [0u8; SPACE];
+    let k = show(&mut out);
+    let _ = rt.write_all(&out[..k]);
+}
+
+// ---- the words
 
 // The place on the command line of the word that says what to do, and of the name that may follow it; the program's own name is before them.
 const WORD: usize = 1;
@@ -150,18 +188,6 @@ const FIRST_ROW: usize = 2;
 
 const ROWS: usize = 65;
 
-// What stands on the command line, by how many there are: nothing, the program's name, a word after it, a name after that, a number and one thing
-// more instead.
-const NOTHING: usize = 0;
-
-const PROGRAM: usize = 1;
-
-const LONE_WORD: usize = 2;
-
-const NAMED_WORD: usize = 3;
-
-const COUNTED_WORD: usize = 4;
-
 // The bytes of a word; a longer one is none of the words.
 const LETTERS: usize = 16;
 
@@ -180,77 +206,53 @@ const PATH: usize = 4096;
 // How much of a command line is counted: as much as has the rows that are read.
 const COUNTED: usize = 67;
 
-// What stands at place `i` on the command line at the start of the buffer, and its length: 0 where nothing stands there or the buffer has no room.
-fn argument(rt: &impl Env, i: usize, buffer: &mut [u8]) -> usize
-    ensures { IsPrefixLen result buffer.new }
-{
-    match rt.arg(i, buffer) {
-        Ok(n) => n,
-        Err(_) => 0,
-    }
+// What stands at place `i` on the command line, in the buffer: nothing where nothing stands there or the buffer has no room.
+fn argument<'a>(rt: &impl Env, i: usize, buffer: &'a mut [u8]) -> &'a [u8] {
+    let n = rt.arg(i, buffer).unwrap_or(0);
+    &buffer[..n]
 }
 
 // How many things stand on the command line, the program's own name among them, up to `COUNTED`.
 fn argument_count(rt: &impl Env) -> usize
     ensures { result ≤ 67 }
 {
-    for i in 0..COUNTED {
-        let mut none = [0u8; 0];
-        if let Err(FillError::NotPresent) = rt.arg(i, &mut none) {
-            return i;
-        }
-    }
-    COUNTED
+    (0..COUNTED)
+        .find(|&i| matches!(rt.arg(i, &mut [0; 0]), Err(FillError::NotPresent)))
+        .unwrap_or(COUNTED)
 }
 
 // The words, on standard output or standard error.
-fn help(to: &impl Print) {
-    let _ = to.write_all(b"openrules < SHEET                    the answer to a sheet\n");
-    let _ = to.write_all(
-        b"openrules finish PARTIAL < COMPLETE  what the partial sheet's residuals give on the complete sheet\n",
-    );
-    let _ = to.write_all(
-        b"openrules page < SHEET               the counter page of a partial sheet\n",
-    );
-    let _ = to.write_all(
-        b"openrules preview LINE NEW < SHEET   the answer to a partial sheet with the line NEW in the place of line LINE\n",
-    );
-    let _ = to.write_all(
-        b"openrules firm P,R P,R .. < SHEET    the decisions on a partial sheet for rows of a principal text and a resource text, and the group's\n",
-    );
-    let _ = to.write_all(
-        b"openrules load SEED POLICIES         the test load that a seed and 1 to 64 policies name, a sheet\n",
-    );
-    let _ = to.write_all(b"openrules help                       these words\n");
-}
+const HELP: &str = "\
+openrules < SHEET                    the answer to a sheet
+openrules finish PARTIAL < COMPLETE  what the partial sheet's residuals give on the complete sheet
+openrules page < SHEET               the counter page of a partial sheet
+openrules preview LINE NEW < SHEET   the answer to a partial sheet with the line NEW in the place of line LINE
+openrules firm P,R P,R .. < SHEET    the decisions on a partial sheet for rows of a principal text and a resource text, and the group's
+openrules load SEED POLICIES         the test load that a seed and 1 to 64 policies name, a sheet
+openrules help                       these words
+";
 
 // No word: a sheet.
 fn print_answer(rt: &(impl Input + Print)) {
     let mut input = [0u8; INPUT];
-    let n = read_full(&mut rt.reader(), &mut input);
-    let mut out = [0u8; SPACE];
-    let k = answer(&input[..n], &mut out);
-    let _ = rt.write_all(&out[..k]);
+    let sheet = sheet_from(&mut rt.reader(), &mut input);
+    print_shown(rt, |out| answer(sheet, out));
 }
 
 // `page`
 fn print_page(rt: &(impl Input + Print)) {
     let mut input = [0u8; INPUT];
-    let n = read_full(&mut rt.reader(), &mut input);
-    let mut out = [0u8; SPACE];
-    let k = paged(&input[..n], &mut out);
-    let _ = rt.write_all(&out[..k]);
+    let sheet = sheet_from(&mut rt.reader(), &mut input);
+    print_shown(rt, |out| paged(sheet, out));
 }
 
 // The partial sheet from an open file, the complete one from standard input.
 fn print_finished(rt: &(impl Input + Print), file: &mut impl Read) {
     let mut first = [0u8; INPUT];
-    let n = read_full(file, &mut first);
+    let partial = sheet_from(file, &mut first);
     let mut second = [0u8; INPUT];
-    let m = read_full(&mut rt.reader(), &mut second);
-    let mut out = [0u8; SPACE];
-    let k = finished(&first[..n], &second[..m], &mut out);
-    let _ = rt.write_all(&out[..k]);
+    let complete = sheet_from(&mut rt.reader(), &mut second);
+    print_shown(rt, |out| finished(partial, complete, out));
 }
 
 // The file of a name, opened for reading. A name is text in UTF-8 to std.
@@ -279,184 +281,85 @@ fn fail(rt: &HostRuntime, what: &[u8], error: Error) {
 
 // `finish PARTIAL`
 fn finish_word(rt: &HostRuntime) {
-    let mut path = [0u8; PATH];
-    let n = argument(rt, NAME, &mut path);
-    match open(rt, &path[..n]) {
+    let mut buffer = [0u8; PATH];
+    let path = argument(rt, NAME, &mut buffer);
+    match open(rt, path) {
         Ok(mut file) => print_finished(rt, &mut file),
-        Err(error) => fail(rt, &path[..n], error),
+        Err(error) => fail(rt, path, error),
     }
-}
-
-// The test load of two numbers.
-fn print_load(rt: &impl Print, seed: u64, policies: u64) {
-    let mut out = [0u8; SPACE];
-    let k = loaded(seed, policies, &mut out);
-    let _ = rt.write_all(&out[..k]);
 }
 
 // Number `i` on the command line.
-fn number_at(rt: &impl Env, i: usize) -> Number {
-    let mut word = [0u8; DIGITS];
-    let n = argument(rt, i, &mut word);
-    number_of(&word[..n])
+fn number_at(rt: &impl Env, i: usize) -> Option<u64> {
+    number_of(argument(rt, i, &mut [0; DIGITS]))
 }
 
-// The partial sheet from standard input, with one line replaced.
-fn print_preview(rt: &(impl Input + Print), line: usize, new: &[u8]) {
+// `preview LINE REPLACEMENT`, on the partial sheet from standard input; nothing where `LINE` is no number.
+fn preview_word(rt: &HostRuntime) -> Option<()> {
+    let line = number_at(rt, LINE)?;
+    let mut buffer = [0u8; ARGUMENT];
+    let new = argument(rt, REPLACEMENT, &mut buffer);
     let mut input = [0u8; INPUT];
-    let n = read_full(&mut rt.reader(), &mut input);
-    let mut out = [0u8; SPACE];
-    let k = previewed(&input[..n], line, new, &mut out);
-    let _ = rt.write_all(&out[..k]);
+    let sheet = sheet_from(&mut rt.reader(), &mut input);
+    print_shown(rt, |out| previewed(sheet, line as usize, new, out));
+    Some(())
 }
 
-// `preview LINE REPLACEMENT`
-fn preview_word(rt: &HostRuntime) {
-    let Number::Value(line) = number_at(rt, LINE) else {
-        help(&rt.stderr());
-        return;
-    };
-    let mut new = [0u8; ARGUMENT];
-    let n = argument(rt, REPLACEMENT, &mut new);
-    print_preview(rt, line as usize, &new[..n]);
-}
-
-// Row `i` on the command line into its words, and whether it is one: two numbers with a comma between them.
-fn row_at(rt: &impl Env, i: usize, rows: &mut [u32]) -> bool
+// Row `i` on the command line as its words, where it is one: two numbers with a comma between them.
+fn row_at(rt: &impl Env, i: usize) -> Option<[u32; ROW]>
     requires { i < 65 }
 {
-    let mut word = [0u8; PAIR];
-    let n = argument(rt, FIRST_ROW + i, &mut word);
-    let pair = &word[..n];
-    let comma = find(pair, 0, b',');
-    if comma >= n {
-        return false;
-    }
-    let Number::Value(principal) = number_of(front(pair, comma)) else {
-        return false;
-    };
-    let Number::Value(resource) = number_of(rest(pair, comma + 1)) else {
-        return false;
-    };
-    let row = [at_most(principal), at_most(resource), 0];
-    store(rows, i * ROW, &row);
-    true
+    let mut buffer = [0u8; PAIR];
+    let pair = argument(rt, FIRST_ROW + i, &mut buffer);
+    let comma = pair.iter().position(|&byte| byte == b',')?;
+    let principal = number_of(&pair[..comma])?;
+    let resource = number_of(&pair[comma + 1..])?;
+    Some([at_most(principal), at_most(resource), 0])
 }
 
-// The first `n` rows into their words, and whether all are rows.
-fn rows_at(rt: &impl Env, n: usize, rows: &mut [u32]) -> bool
-    requires { n ≤ 65 }
-{
-    let mut i = 0;
-    while i < n {
-        if !row_at(rt, i, rows) {
-            return false;
-        }
-        i += 1;
+// `firm P,R P,R ..`, on the partial sheet from standard input; nothing where something there is no row.
+fn firm_word(rt: &HostRuntime) -> Option<()> {
+    let n = argument_count(rt).saturating_sub(FIRST_ROW).min(ROWS);
+    let mut words = [0u32; ROWS * ROW];
+    for i in 0..n {
+        words[i * ROW..(i + 1) * ROW].copy_from_slice(&row_at(rt, i)?);
     }
-    true
-}
-
-// How many rows are read.
-fn rows_given(rt: &impl Env) -> usize
-    ensures { result ≤ 65 }
-{
-    let n = argument_count(rt);
-    if n < FIRST_ROW {
-        return 0;
-    }
-    if n - FIRST_ROW > ROWS {
-        return ROWS;
-    }
-    n - FIRST_ROW
-}
-
-// The partial sheet from standard input, with these rows.
-fn print_firm(rt: &(impl Input + Print), rows: &mut [u32]) {
+    let rows = &mut words[..n * ROW];
     let mut input = [0u8; INPUT];
-    let n = read_full(&mut rt.reader(), &mut input);
-    let mut out = [0u8; SPACE];
-    let k = quoted(rows, &input[..n], &mut out);
-    let _ = rt.write_all(&out[..k]);
+    let sheet = sheet_from(&mut rt.reader(), &mut input);
+    print_shown(rt, |out| quoted(rows, sheet, out));
+    Some(())
 }
 
-// `firm P,R P,R ..`
-fn firm_word(rt: &HostRuntime) {
-    let n = rows_given(rt);
-    let mut rows = [0u32; ROWS * ROW];
-    if !rows_at(rt, n, &mut rows) {
-        help(&rt.stderr());
-        return;
-    }
-    print_firm(rt, &mut rows[..n * ROW]);
+// `load SEED POLICIES`; nothing where one is no number.
+fn load_word(rt: &HostRuntime) -> Option<()> {
+    let seed = number_at(rt, SEED)?;
+    let policies = number_at(rt, POLICIES)?;
+    print_shown(rt, |out| loaded(seed, policies, out));
+    Some(())
 }
 
-// `load SEED POLICIES`
-fn load_word(rt: &HostRuntime) {
-    let Number::Value(seed) = number_at(rt, SEED) else {
-        help(&rt.stderr());
-        return;
-    };
-    let Number::Value(policies) = number_at(rt, POLICIES) else {
-        help(&rt.stderr());
-        return;
-    };
-    print_load(rt, seed, policies);
-}
-
-// One word alone.
-fn lone_word(rt: &HostRuntime, word: &[u8]) {
-    if same_bytes(word, b"help") {
-        help(&rt.stdout());
-        return;
+// What the command line asks for; nothing where `HELP` does not list it.
+fn run(rt: &HostRuntime) -> Option<()> {
+    let mut buffer = [0u8; LETTERS];
+    let word = argument(rt, WORD, &mut buffer);
+    match (word, argument_count(rt)) {
+        (b"firm", _) => firm_word(rt)?,
+        (_, 0 | 1) => print_answer(rt),
+        (b"help", 2) => {
+            let _ = rt.write_all(HELP.as_bytes());
+        }
+        (b"page", 2) => print_page(rt),
+        (b"finish", 3) => finish_word(rt),
+        (b"preview", 4) => preview_word(rt)?,
+        (b"load", 4) => load_word(rt)?,
+        _ => return None,
     }
-    if same_bytes(word, b"page") {
-        print_page(rt);
-        return;
-    }
-    help(&rt.stderr());
-}
-
-// A word and a name.
-fn named_word(rt: &HostRuntime, word: &[u8]) {
-    if same_bytes(word, b"finish") {
-        finish_word(rt);
-        return;
-    }
-    help(&rt.stderr());
-}
-
-// A word, a number and one thing more.
-fn counted_word(rt: &HostRuntime, word: &[u8]) {
-    if same_bytes(word, b"preview") {
-        preview_word(rt);
-        return;
-    }
-    if same_bytes(word, b"load") {
-        load_word(rt);
-        return;
-    }
-    help(&rt.stderr());
-}
-
-// What the word asks for.
-fn run(rt: &HostRuntime) {
-    let mut word = [0u8; LETTERS];
-    let n = argument(rt, WORD, &mut word);
-    if same_bytes(&word[..n], b"firm") {
-        firm_word(rt);
-        return;
-    }
-    match argument_count(rt) {
-        NOTHING => print_answer(rt),
-        PROGRAM => print_answer(rt),
-        LONE_WORD => lone_word(rt, &word[..n]),
-        NAMED_WORD => named_word(rt, &word[..n]),
-        COUNTED_WORD => counted_word(rt, &word[..n]),
-        _ => help(&rt.stderr()),
-    }
+    Some(())
 }
 
 fn main(rt: HostRuntime) {
-    run(&rt);
+    if run(&rt).is_none() {
+        let _ = rt.stderr().write_all(HELP.as_bytes());
+    }
 }

@@ -2,6 +2,7 @@
 // are written where the last two pointers say. include/openrules.h declares the functions and says what a caller owes.
 #![tactic(auto)]
 
+ghost use Rattle.std.specs.Prelude.{◌≡◌};
 ghost use Rattle.sheet.specs.Forms.{partial, complete};
 ghost use Rattle.authorizer.specs.Called.{Called};
 ghost use Rattle.finished.specs.Promise.{Finished};
@@ -10,12 +11,23 @@ ghost use Rattle.paged.specs.Promise.{Paged};
 ghost use Rattle.previewed.specs.Promise.{Previewed};
 ghost use Rattle.testload.specs.Loaded.{Loaded};
 
-use authorizer::{complete, partial};
+use authorizer::{Returned, complete, partial};
 use finish::finish;
 use firm::{Row, firm};
 use page::page;
 use preview::preview;
 use testload::load;
+
+// What a call returned, handed over: line and length are written, the number is returned.
+fn handed(r: Returned, line: &mut usize, length: &mut usize) -> u32
+    ensures number { result ≡ r.number }
+    ensures line { line.new ≡ r.line }
+    ensures length { length.new ≡ r.length }
+{
+    *line = r.line;
+    *length = r.length;
+    r.number
+}
 
 #[unsafe(no_mangle)]
 pub extern "C" fn openrules_partial(
@@ -29,9 +41,7 @@ pub extern "C" fn openrules_partial(
     ensures { Called partial sheet.now first.old second.old out.old result line.new length.new out.new first.new second.new }
 {
     let r = partial(sheet, first, second, out);
-    *line = r.line;
-    *length = r.length;
-    r.number
+    handed(r, line, length)
 }
 
 #[unsafe(no_mangle)]
@@ -46,9 +56,7 @@ pub extern "C" fn openrules_complete(
     ensures { Called complete sheet.now first.old second.old out.old result line.new length.new out.new first.new second.new }
 {
     let r = complete(sheet, first, second, out);
-    *line = r.line;
-    *length = r.length;
-    r.number
+    handed(r, line, length)
 }
 
 #[unsafe(no_mangle)]
@@ -64,9 +72,7 @@ pub extern "C" fn openrules_finish(
     ensures { Finished partial.now complete.now first.old second.old out.old result line.new length.new out.new first.new second.new }
 {
     let r = finish(partial, complete, first, second, out);
-    *line = r.line;
-    *length = r.length;
-    r.number
+    handed(r, line, length)
 }
 
 #[unsafe(no_mangle)]
@@ -81,9 +87,7 @@ pub extern "C" fn openrules_page(
     ensures { Paged sheet.now first.old second.old out.old result line.new length.new out.new first.new second.new }
 {
     let r = page(sheet, first, second, out);
-    *line = r.line;
-    *length = r.length;
-    r.number
+    handed(r, line, length)
 }
 
 #[unsafe(no_mangle)]
@@ -100,9 +104,7 @@ pub extern "C" fn openrules_preview(
     ensures { Previewed sheet.now of_line replacement.now first.old second.old out.old result line.new length.new out.new first.new second.new }
 {
     let r = preview(sheet, of_line, replacement, first, second, out);
-    *line = r.line;
-    *length = r.length;
-    r.number
+    handed(r, line, length)
 }
 
 // No work slices are lent.
@@ -117,9 +119,7 @@ pub extern "C" fn openrules_test_load(
     ensures { Loaded seed policies out.old result line.new length.new out.new }
 {
     let r = load(seed, policies, out);
-    *line = r.line;
-    *length = r.length;
-    r.number
+    handed(r, line, length)
 }
 
 // For a list of rows; the group's decision is written where the last pointer says.

@@ -77,13 +77,11 @@ fn in_order(rows: &[u32], key: usize) -> bool
         }
         return enough_before(rows, NODE);
     }
-    let mut i = key + 1;
-    while i < NO_KEY {
+    for i in key + 1..NO_KEY {
         let n = count(rows, i);
         if n != 0 {
             return false;
         }
-        i += 1;
     }
     enough_before(rows, key)
 }

@@ -6,9 +6,12 @@ use native.Mathlib.Omega.{arith}
 use lib.ListN.{length, take, drop}
 use lib.Seq.{take_all, take-append_seam, length-take-le}
 use Rattle.sheet.specs.Bytes.{digits}
+use Rattle.print.specs.declared.Out.{Out}
+use Rattle.print.specs.Out.{Prints}
 use Rattle.print.specs.Written.{Written}
-use Rattle.print.proofs.Writing.{written_append, written_as, written_over, digits_few}
-use Rattle.print.proofs.Printing.{Printing, printing_start, printing_on, printing_end}
+use Rattle.print.proofs.Outs.{prints_as, prints_two}
+use Rattle.print.proofs.Writing.{written_over, digits_few}
+use Rattle.listing.proofs.Printing.{Printing, printing_start, printing_on, printing_end}
 use Rattle.paged.specs.Page.{spaces, cell, right_cell, left_off}
 
 -- ---- spaces
@@ -20,16 +23,16 @@ one_more n i h = omega arith
 unfoldable pub spaces_left : ℕ → ℕ → List ℕ
 spaces_left n i = spaces (n - i)
 
-pub spaces_start : (n : ℕ) (was : List ℕ) (at : ℕ) → at ≤ 18446744073709551615 → length was ≤ 18446744073709551615 → Printing (spaces n) (spaces_left n 0) was at was at
+pub spaces_start : (n : ℕ) (o : Out) → Printing (spaces n) (spaces_left n 0) o o
 unfolding spaces_left
-spaces_start n was at h l = let e : n ≡ n - 0 = omega arith in printing_start (spaces n) (spaces_left n 0) was at (ap spaces e) h l
+spaces_start n o = let e : n ≡ n - 0 = omega arith in printing_start (spaces n) (spaces_left n 0) o (ap spaces e)
 
-module _ (n i : ℕ) (was is : List ℕ) (at next : ℕ) (p : Printing (spaces n) (spaces_left n i) was at is next) where
-  pub spaces_on : (out : List ℕ) (then : ℕ) → i < n → Written is next (32 ∷ []) out then → Printing (spaces n) (spaces_left n (i + 1)) was at out then
+module _ (n i : ℕ) {a b : Out} (p : Printing (spaces n) (spaces_left n i) a b) where
+  pub spaces_on : {c : Out} → i < n → Prints b (32 ∷ []) c → Printing (spaces n) (spaces_left n (i + 1)) a c
   unfolding spaces_left
-  spaces_on out then h w = printing_on p (32 ∷ []) (spaces_left n (i + 1)) out then (ap spaces (one_more n i h)) w
+  spaces_on h w = printing_on p (32 ∷ []) (spaces_left n (i + 1)) (ap spaces (one_more n i h)) w
 
-  pub spaces_end : n ≤ i → Written was at (spaces n) is next
+  pub spaces_end : n ≤ i → Prints a (spaces n) b
   unfolding spaces_left
   spaces_end h = let e : n - i ≡ 0 = omega arith in printing_end p (ap spaces e)
 
@@ -42,18 +45,18 @@ no_spaces t n h = let e : n - length t ≡ 0 = omega arith in ap spaces e
 pub part_cut : (t : List ℕ) (n : ℕ) → n < length t → length (take n t) ≡ n
 part_cut t n h = length-take-le n t (omega arith)
 
-module _ (was is : List ℕ) (at next : ℕ) (t : List ℕ) (n : ℕ) where
-  pub cell_cut : n < length t → Written was at (take n t) is next → Written was at (cell n t) is next
-  cell_cut h w = written_as w (sym (ap (λ (l : List ℕ). take n t ++ l) (no_spaces t n h) ∙ append-nil (take n t)))
+module _ {a b : Out} (t : List ℕ) (n : ℕ) where
+  pub cell_cut : n < length t → Prints a (take n t) b → Prints a (cell n t) b
+  cell_cut h p = prints_as p (sym (ap (λ (l : List ℕ). take n t ++ l) (no_spaces t n h) ∙ append-nil (take n t)))
 
-  pub right_cut : n < length t → Written was at (take n t) is next → Written was at (right_cell n t) is next
-  right_cut h w = written_as w (sym (ap (λ (l : List ℕ). l ++ take n t) (no_spaces t n h)))
+  pub right_cut : n < length t → Prints a (take n t) b → Prints a (right_cell n t) b
+  right_cut h p = prints_as p (sym (ap (λ (l : List ℕ). l ++ take n t) (no_spaces t n h)))
 
-  pub cell_filled : (mid : List ℕ) (m : ℕ) → length t ≤ n → Written was at t mid m → Written mid m (spaces (n - length t)) is next → Written was at (cell n t) is next
-  cell_filled mid m h v w = written_as (written_append v w) (ap (λ (l : List ℕ). l ++ spaces (n - length t)) (sym (take_all n t h)))
+  pub cell_filled : {m : Out} → length t ≤ n → Prints a t m → Prints m (spaces (n - length t)) b → Prints a (cell n t) b
+  cell_filled h p q = prints_as (prints_two p q) (ap (λ (l : List ℕ). l ++ spaces (n - length t)) (sym (take_all n t h)))
 
-  pub right_filled : (mid : List ℕ) (m : ℕ) → length t ≤ n → Written was at (spaces (n - length t)) mid m → Written mid m t is next → Written was at (right_cell n t) is next
-  right_filled mid m h v w = written_as (written_append v w) (ap (λ (l : List ℕ). spaces (n - length t) ++ l) (sym (take_all n t h)))
+  pub right_filled : {m : Out} → length t ≤ n → Prints a (spaces (n - length t)) m → Prints m t b → Prints a (right_cell n t) b
+  right_filled h p q = prints_as (prints_two p q) (ap (λ (l : List ℕ). spaces (n - length t) ++ l) (sym (take_all n t h)))
 
 -- ---- a number: its bytes in an array that has room for them
 
@@ -71,8 +74,8 @@ module _ (was is : List ℕ) (k n : ℕ) where
   pub number_part : length was ≡ 20 → Written was 0 (digits n) is k → length is ≡ length was → length (take k is) ≡ k
   number_part l w e = length-take-le k is (number_within l w e)
 
-  pub number_right : length was ≡ 20 → Written was 0 (digits n) is k → (out out' : List ℕ) (at next width : ℕ) → Written out at (right_cell width (take k is)) out' next → Written out at (right_cell width (digits n)) out' next
-  number_right l w out out' at next width v = written_as v (ap (right_cell width) (bytes_back was (digits n) is k w (omega (arith, l, digits_few n))))
+  pub number_right : length was ≡ 20 → Written was 0 (digits n) is k → {a b : Out} (width : ℕ) → Prints a (right_cell width (take k is)) b → Prints a (right_cell width (digits n)) b
+  number_right l w width v = prints_as v (ap (right_cell width) (bytes_back was (digits n) is k w (omega (arith, l, digits_few n))))
 
   pub left_within : length was ≡ 21 → Written was 0 (left_off n) is k → length is ≡ length was → k ≤ length is
   left_within l w e = within was (left_off n) is k w (omega (arith, l, digits_few n)) e
@@ -80,5 +83,5 @@ module _ (was is : List ℕ) (k n : ℕ) where
   pub left_part : length was ≡ 21 → Written was 0 (left_off n) is k → length is ≡ length was → length (take k is) ≡ k
   left_part l w e = length-take-le k is (left_within l w e)
 
-  pub left_is : length was ≡ 21 → Written was 0 (left_off n) is k → (out out' : List ℕ) (at next width : ℕ) → Written out at (cell width (take k is)) out' next → Written out at (cell width (left_off n)) out' next
-  left_is l w out out' at next width v = written_as v (ap (cell width) (bytes_back was (left_off n) is k w (omega (arith, l, digits_few n))))
+  pub left_is : length was ≡ 21 → Written was 0 (left_off n) is k → {a b : Out} (width : ℕ) → Prints a (cell width (take k is)) b → Prints a (cell width (left_off n)) b
+  left_is l w width v = prints_as v (ap (cell width) (bytes_back was (left_off n) is k w (omega (arith, l, digits_few n))))

@@ -21,11 +21,15 @@ use Rattle.table.specs.Layout.{RUN, rows_of, text_at}
 use Rattle.table.proofs.Rows.{count_rows}
 use Rattle.value.proofs.Lists.{uncons}
 use Rattle.residual.specs.Classes.{class_number, CLASS_TRUE, CLASS_FALSE, CLASS_ERROR}
-use Rattle.print.specs.Written.{Written}
-use Rattle.print.proofs.Writing.{written_append, written_as}
-use Rattle.print.proofs.Printing.{Printing, printing_start, printing_on, printing_end}
-use Rattle.response.specs.Verdicts.{class_in, effect_in, effect_number, verdicts_in, decision_of}
+use Rattle.print.specs.declared.Out.{Out}
+use Rattle.print.specs.Out.{Prints}
+use Rattle.print.proofs.Outs.{prints_as, prints_two}
+use Rattle.listing.proofs.Printing.{Printing, printing_start, printing_on, printing_end}
+use Rattle.response.specs.Verdicts.{class_in, effect_in, effect_number, effect_said, verdicts_in, decision_of}
 use Rattle.response.specs.declared.Decision as D
+use Rattle.response.specs.declared.Effect as E
+use Rattle.tpe.specs.declared.Class as T
+use Rattle.tpe.specs.Classes as Called
 use Rattle.response.proofs.Counting.{first_of}
 use Rattle.response.proofs.Rooted.{next}
 use Rattle.paged.specs.Page.{spaces, cell, right_cell, first_row, policy_row, left_off, shown_rows, page_line, page_lines, said_rows, page_of}
@@ -34,25 +38,15 @@ use Rattle.page.specs.Said.{first_cell, effect_cell, class_cell, line_at, polici
 
 -- ---- words
 
-module _ (was is : List ℕ) (at next : ℕ) where
-  pub decided : (d x : D.Decision) → d ≡ x → Written was at (first_cell (decision_of x)) is next → Written was at (first_cell (decision_of d)) is next
-  decided d x e w = written_as w (ap (λ (y : D.Decision). first_cell (decision_of y)) (sym e))
+module _ {a b : Out} where
+  pub decided : (d x : D.Decision) → d ≡ x → Prints a (first_cell (decision_of x)) b → Prints a (first_cell (decision_of d)) b
+  decided d x e w = prints_as w (ap (λ (y : D.Decision). first_cell (decision_of y)) (sym e))
 
-  pub effect_permit : (e : ℕ) → e ≡ PERMIT → Written was at (effect_cell PERMIT) is next → Written was at (effect_cell e) is next
-  effect_permit e h w = written_as w (ap effect_cell (sym h))
+  pub effected : (d x : E.Effect) → d ≡ x → Prints a (effect_cell (effect_number (effect_said x))) b → Prints a (effect_cell (effect_number (effect_said d))) b
+  effected d x e w = prints_as w (ap (λ (y : E.Effect). effect_cell (effect_number (effect_said y))) (sym e))
 
-  pub effect_other : (e : ℕ) → (e ≡ PERMIT → ⊥) → Written was at (cell 8 (ascii "forbid")) is next → Written was at (effect_cell e) is next
-  effect_other zero h w = absurd (h refl)
-  effect_other (suc e) h w = w
-
-  pub classed : (c n : ℕ) → c ≡ n → Written was at (class_cell n) is next → Written was at (class_cell c) is next
-  classed c n e w = written_as w (ap class_cell (sym e))
-
-  pub class_other : (c : ℕ) → (c ≡ CLASS_TRUE → ⊥) → (c ≡ CLASS_FALSE → ⊥) → (c ≡ CLASS_ERROR → ⊥) → Written was at (cell 8 (ascii "open")) is next → Written was at (class_cell c) is next
-  class_other zero f g h w = absurd (f refl)
-  class_other (suc zero) f g h w = absurd (g refl)
-  class_other (suc (suc zero)) f g h w = absurd (h refl)
-  class_other (suc (suc (suc c))) f g h w = w
+  pub classed : (d x : T.Class) → d ≡ x → Prints a (class_cell (class_number (Called.class_in x))) b → Prints a (class_cell (class_number (Called.class_in d))) b
+  classed d x e w = prints_as w (ap (λ (y : T.Class). class_cell (class_number (Called.class_in y))) (sym e))
 
 effect_text : (e : Effect) → effect_cell (effect_number e) ≡ cell 8 (ascii (effect_word e))
 effect_text permit = refl
@@ -82,20 +76,20 @@ row_text : (a b c d e : List ℕ) → a ++ (b ++ (c ++ (d ++ e))) ≡ (a ++ (b +
 row_text a b c d e =
     sym (append_assoc a (b ++ (c ++ d)) e ∙ ap (λ (l : List ℕ). a ++ l) (append_assoc b (c ++ d) e ∙ ap (λ (l : List ℕ). b ++ l) (append_assoc c d e)))
 
-pub policy_line_law : (was w₁ w₂ w₃ w₄ is : List ℕ) (at k₁ k₂ k₃ k₄ next : ℕ) (sheet a cs : List ℕ) (i nodes x e c : ℕ) (r t : List ℕ) → r ≡ get_or (rows_of a RUN) i [] → x ≡ get_or r 1 0 → t ≡ text_at sheet a x
-    → e ≡ effect_number (effect_in (get_or (rows_of a RUN) i [])) → c ≡ class_number (class_in (get_or cs i 0))
-    → Written was at (cell 40 t) w₁ k₁ → Written w₁ k₁ (effect_cell e) w₂ k₂ → Written w₂ k₂ (class_cell c) w₃ k₃ → Written w₃ k₃ (right_cell 16 (digits nodes)) w₄ k₄ → Written w₄ k₄ (10 ∷ []) is next
-    → Written was at (line_at sheet a cs i nodes) is next
+pub policy_line_law : {o o₁ o₂ o₃ o₄ o₅ : Out} → (sheet a cs : List ℕ) (i nodes x : ℕ) (E : Effect) (C : Class) (r t : List ℕ) → r ≡ get_or (rows_of a RUN) i [] → x ≡ get_or r 1 0 → t ≡ text_at sheet a x
+    → E ≡ effect_in (get_or (rows_of a RUN) i []) → C ≡ class_in (get_or cs i 0)
+    → Prints o (cell 40 t) o₁ → Prints o₁ (effect_cell (effect_number E)) o₂ → Prints o₂ (class_cell (class_number C)) o₃ → Prints o₃ (right_cell 16 (digits nodes)) o₄ → Prints o₄ (10 ∷ []) o₅
+    → Prints o (line_at sheet a cs i nodes) o₅
 unfolding line_at
-policy_line_law was w₁ w₂ w₃ w₄ is at k₁ k₂ k₃ k₄ next sheet a cs i nodes x e c r t er ex et ee ec v₁ v₂ v₃ v₄ v₅ =
+policy_line_law sheet a cs i nodes x E₀ C₀ r t er ex et ee ec v₁ v₂ v₃ v₄ v₅ =
     let q : List ℕ = get_or (rows_of a RUN) i [] in
     let id : List ℕ = text_at sheet a (get_or q 1 0) in
     let E : Effect = effect_in q in
     let C : Class = class_in (get_or cs i 0) in
-    let u₁ = written_as v₁ (ap (cell 40) (et ∙ ap (text_at sheet a) (ex ∙ ap (λ (l : List ℕ). get_or l 1 0) er))) in
-    let u₂ = written_as v₂ (ap effect_cell ee ∙ effect_text E) in
-    let u₃ = written_as v₃ (ap class_cell ec ∙ class_text C) in
-    written_as (written_append u₁ (written_append u₂ (written_append u₃ (written_append v₄ v₅))))
+    let u₁ = prints_as v₁ (ap (cell 40) (et ∙ ap (text_at sheet a) (ex ∙ ap (λ (l : List ℕ). get_or l 1 0) er))) in
+    let u₂ = prints_as v₂ (ap (λ (e : Effect). effect_cell (effect_number e)) ee ∙ effect_text E) in
+    let u₃ = prints_as v₃ (ap (λ (c : Class). class_cell (class_number c)) ec ∙ class_text C) in
+    prints_as (prints_two u₁ (prints_two u₂ (prints_two u₃ (prints_two v₄ v₅))))
     (row_text (cell 40 id) (cell 8 (ascii (effect_word E))) (cell 8 (ascii (class_word C))) (right_cell 16 (digits nodes)) (10 ∷ [])
     ∙ ap (λ (l : List ℕ). l ++ (10 ∷ [])) (sym (cell_full 72 (policy_row id E C nodes) (row_length id E C nodes))))
 
@@ -127,26 +121,24 @@ left_on sheet a cs es n i before h k =
     let e : n - i ≡ suc (n - (i + 1)) = omega arith in
     ap₂ (λ (m : ℕ) (l : List (List ℕ)). concat (page_lines m l)) e (said_on sheet a cs es i before k)
 
-pub policies_start : (sheet a cs es : List ℕ) (n : ℕ) (was : List ℕ) (at : ℕ) → at ≤ 18446744073709551615 → length was ≤ 18446744073709551615
-    → Printing (first_lines sheet a cs es n) (left_from sheet a cs es n 0 0) was at was at
+pub policies_start : (sheet a cs es : List ℕ) (n : ℕ) (o : Out) → Printing (first_lines sheet a cs es n) (left_from sheet a cs es n 0 0) o o
 unfolding policies_in first_lines left_from
-policies_start sheet a cs es n was at h l =
+policies_start sheet a cs es n o =
     let e : n ≡ n - 0 = omega arith in
-    printing_start (first_lines sheet a cs es n) (left_from sheet a cs es n 0 0) was at
-    (ap (λ (m : ℕ). concat (page_lines m (said_rows (text_at sheet a) 0 (policies_in a cs es)))) e) h l
+    printing_start (first_lines sheet a cs es n) (left_from sheet a cs es n 0 0) o
+    (ap (λ (m : ℕ). concat (page_lines m (said_rows (text_at sheet a) 0 (policies_in a cs es)))) e)
 
-module _ (sheet a cs es : List ℕ) (n : ℕ) (few : n ≤ get_or a RUN 0) (i before : ℕ) (was is : List ℕ) (at then : ℕ)
-    (p : Printing (first_lines sheet a cs es n) (left_from sheet a cs es n i before) was at is then) where
-  pub policies_on : (x nodes : ℕ) (out : List ℕ) (last : ℕ) → i < n → x ≡ get_or es i 0 → nodes ≡ suc x - before → Written is then (line_at sheet a cs i nodes) out last
-      → Printing (first_lines sheet a cs es n) (left_from sheet a cs es n (i + 1) (x + 1)) was at out last
-  policies_on x nodes out last h e f w =
+module _ (sheet a cs es : List ℕ) (n : ℕ) (few : n ≤ get_or a RUN 0) (i before : ℕ) {o o₁ : Out} (p : Printing (first_lines sheet a cs es n) (left_from sheet a cs es n i before) o o₁) where
+  pub policies_on : {o₂ : Out} → (x nodes : ℕ) → i < n → x ≡ get_or es i 0 → nodes ≡ suc x - before → Prints o₁ (line_at sheet a cs i nodes) o₂
+      → Printing (first_lines sheet a cs es n) (left_from sheet a cs es n (i + 1) (x + 1)) o o₂
+  policies_on x nodes h e f w =
       let g : suc (get_or es i 0) ≡ x + 1 = ap suc (sym e) ∙ sym (add-one x) in
       let k : nodes ≡ suc (get_or es i 0) - before = f ∙ ap (λ (y : ℕ). suc y - before) e in
-      printing_on p (line_at sheet a cs i nodes) (left_from sheet a cs es n (i + 1) (x + 1)) out last
+      printing_on p (line_at sheet a cs i nodes) (left_from sheet a cs es n (i + 1) (x + 1))
       (left_on sheet a cs es n i before h (omega (arith, few, count_rows a RUN))
       ∙ ap₂ (λ (y z : ℕ). line_at sheet a cs i y ++ left_from sheet a cs es n (i + 1) z) (sym k) g) w
 
-  pub policies_end : n ≤ i → Written was at (first_lines sheet a cs es n) is then
+  pub policies_end : n ≤ i → Prints o (first_lines sheet a cs es n) o₁
   unfolding left_from
   policies_end h = let e : n - i ≡ 0 = omega arith in printing_end p (ap (λ (m : ℕ). concat (page_lines m (said_from sheet a cs es i before))) e)
 
@@ -156,19 +148,18 @@ module _ (sheet a cs es : List ℕ) (n : ℕ) (few : n ≤ get_or a RUN 0) (i be
 unfoldable pub blank_left : ℕ → ℕ → List ℕ
 blank_left n i = blank_lines_def (n - i)
 
-pub blank_start : (n : ℕ) (was : List ℕ) (at : ℕ) → at ≤ 18446744073709551615 → length was ≤ 18446744073709551615 → Printing (blank_lines_def n) (blank_left n 0) was at was at
+pub blank_start : (n : ℕ) (o : Out) → Printing (blank_lines_def n) (blank_left n 0) o o
 unfolding blank_lines_def blank_left
-blank_start n was at h l = let e : n ≡ n - 0 = omega arith in printing_start (blank_lines_def n) (blank_left n 0) was at (ap (λ (m : ℕ). concat (page_lines m [])) e) h l
+blank_start n o = let e : n ≡ n - 0 = omega arith in printing_start (blank_lines_def n) (blank_left n 0) o (ap (λ (m : ℕ). concat (page_lines m [])) e)
 
-module _ (n i : ℕ) (was is : List ℕ) (at then : ℕ) (p : Printing (blank_lines_def n) (blank_left n i) was at is then) where
-  pub blank_on : (mid out : List ℕ) (m last : ℕ) → i < n → Written is then (cell 72 []) mid m → Written mid m (10 ∷ []) out last
-      → Printing (blank_lines_def n) (blank_left n (i + 1)) was at out last
+module _ (n i : ℕ) {o o₁ : Out} (p : Printing (blank_lines_def n) (blank_left n i) o o₁) where
+  pub blank_on : {o₂ o₃ : Out} → i < n → Prints o₁ (cell 72 []) o₂ → Prints o₂ (10 ∷ []) o₃ → Printing (blank_lines_def n) (blank_left n (i + 1)) o o₃
   unfolding blank_lines_def blank_left
-  blank_on mid out m last h v w =
+  blank_on h v w =
       let e : n - i ≡ suc (n - (i + 1)) = omega arith in
-      printing_on p (page_line []) (blank_left n (i + 1)) out last (ap (λ (j : ℕ). concat (page_lines j [])) e) (written_append v w)
+      printing_on p (page_line []) (blank_left n (i + 1)) (ap (λ (j : ℕ). concat (page_lines j [])) e) (prints_two v w)
 
-  pub blank_end : n ≤ i → Written was at (blank_lines_def n) is then
+  pub blank_end : n ≤ i → Prints o (blank_lines_def n) o₁
   unfolding blank_lines_def blank_left
   blank_end h = let e : n - i ≡ 0 = omega arith in printing_end p (ap (λ (j : ℕ). concat (page_lines j [])) e)
 
@@ -210,7 +201,7 @@ policies_length : (rs : List (List ℕ)) (cs es : List ℕ) → length (policies
 policies_length [] cs es = refl
 policies_length (r ∷ rs) cs es = ap suc (policies_length rs (drop 1 cs) (drop 1 es))
 
-module _ (sheet a cs es : List ℕ) (n : ℕ) (en : n ≡ get_or a RUN 0) (was is : List ℕ) (at then : ℕ) where
+module _ (sheet a cs es : List ℕ) (n : ℕ) (en : n ≡ get_or a RUN 0) where
   abbrev all_rows : List (List ℕ)
   all_rows = rows_in sheet a cs es
 
@@ -218,26 +209,25 @@ module _ (sheet a cs es : List ℕ) (n : ℕ) (en : n ≡ get_or a RUN 0) (was i
   unfolding policies_in
   rows_length = said_length (text_at sheet a) 0 (policies_in a cs es) ∙ policies_length (rows_of a RUN) cs es ∙ count_rows a RUN ∙ sym en
 
-  pub shown_few : (mid : List ℕ) (m : ℕ) → n ≤ 59 → Written was at (first_lines sheet a cs es n) mid m → Written mid m (blank_lines_def (59 - n)) is then → Written was at (shown_lines sheet a cs es) is then
+  pub shown_few : {o o₁ m : Out} → n ≤ 59 → Prints o (first_lines sheet a cs es n) m → Prints m (blank_lines_def (59 - n)) o₁ → Prints o (shown_lines sheet a cs es) o₁
   unfolding first_lines blank_lines_def shown_lines
-  shown_few mid m h v w =
+  shown_few h v w =
       let k : length all_rows ≤ 59 = omega (arith, rows_length, h) in
-      written_as (written_append v w)
+      prints_as (prints_two v w)
       (sym (ap (λ (b : Bool). concat (page_lines 59 (cond b (take 58 all_rows ++ (left_off (length all_rows - 58) ∷ [])) all_rows))) (le-ltb 59 (length all_rows) k) ∙ lines_all 59 n all_rows rows_length h))
 
-  pub shown_many : (mid w₂ : List ℕ) (m k₂ : ℕ) → 59 < n → Written was at (first_lines sheet a cs es 58) mid m → Written mid m (cell 72 (left_off (n - 58))) w₂ k₂ → Written w₂ k₂ (10 ∷ []) is then
-      → Written was at (shown_lines sheet a cs es) is then
+  pub shown_many : {o o₁ m m₂ : Out} → 59 < n → Prints o (first_lines sheet a cs es 58) m → Prints m (cell 72 (left_off (n - 58))) m₂ → Prints m₂ (10 ∷ []) o₁ → Prints o (shown_lines sheet a cs es) o₁
   unfolding first_lines shown_lines
-  shown_many mid w₂ m k₂ h u v w =
+  shown_many h u v w =
       let k : 59 < length all_rows = omega (arith, rows_length, h) in
-      written_as (written_append u (written_append v w))
+      prints_as (prints_two u (prints_two v w))
       (sym (ap (λ (b : Bool). concat (page_lines 59 (cond b (take 58 all_rows ++ (left_off (length all_rows - 58) ∷ [])) all_rows))) (lt-ltb 59 (length all_rows) k)
       ∙ lines_more 58 all_rows (left_off (length all_rows - 58)) (omega (arith, k)) ∙ ap (λ (j : ℕ). concat (page_lines 58 all_rows) ++ page_line (left_off (j - 58))) rows_length))
 
 -- ---- the whole page
 
-pub page_is : (was w₁ w₂ is : List ℕ) (k₁ k₂ then : ℕ) (sheet a cs es : List ℕ) (d : D.Decision) → decision_of d ≡ decision (verdicts_in a cs)
-    → Written was 0 (first_cell (decision_of d)) w₁ k₁ → Written w₁ k₁ (10 ∷ []) w₂ k₂ → Written w₂ k₂ (shown_lines sheet a cs es) is then → Written was 0 (page_in sheet a cs es) is then
+pub page_is : {o o₁ o₂ o₃ : Out} → (sheet a cs es : List ℕ) (d : D.Decision) → decision_of d ≡ decision (verdicts_in a cs)
+    → Prints o (first_cell (decision_of d)) o₁ → Prints o₁ (10 ∷ []) o₂ → Prints o₂ (shown_lines sheet a cs es) o₃ → Prints o (page_in sheet a cs es) o₃
 unfolding shown_lines page_in page_of
-page_is was w₁ w₂ is k₁ k₂ then sheet a cs es d e u v w =
-    written_as (written_append (written_append u v) w) (ap (λ (y : Decision). page_line (first_row y) ++ concat (page_lines 59 (shown_rows (rows_in sheet a cs es)))) e)
+page_is sheet a cs es d e u v w =
+    prints_as (prints_two (prints_two u v) w) (ap (λ (y : Decision). page_line (first_row y) ++ concat (page_lines 59 (shown_rows (rows_in sheet a cs es)))) e)

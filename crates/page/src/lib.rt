@@ -7,17 +7,29 @@ pub mod lines;
 
 ghost use Rattle.std.specs.Prelude.{◌≡◌, length};
 ghost use Rattle.paged.specs.Promise.{Paged};
+ghost use Rattle.print.specs.Written.{Written};
+ghost use Rattle.page.specs.Said.{page_in};
 ghost use Rattle.page.specs.Parts.{Shows, Pages};
 
 use interpret::{CLASSES, ROOTS};
 use lines::print_page;
 use opening::open;
-use print::Returned;
+use print::{Out, Returned};
+use response::Policies;
 use sent::Sent;
 use words::{ROOM, clear, cut};
 
 // The bytes of a page.
 const PAGE: usize = 4380;
+
+// The page at the start of a buffer, and its length.
+fn page_in(buffer: &mut [u8], sheet: &[u8], policies: &Policies, roots: &[u32]) -> usize
+    ensures { Written buffer.old 0 (page_in sheet.now policies.now.rows.now policies.now.classes.now roots.now) buffer.new result }
+{
+    let mut out = Out::new(buffer);
+    print_page(&mut out, sheet, policies, roots);
+    out.len()
+}
 
 // A partial sheet that the words hold, run and shown: 0, or 10 where the buffer is too short for a page.
 fn show(sheet: &[u8], rows: &mut [u32], log: &mut [u32], out: &mut [u8]) -> Sent
@@ -32,13 +44,11 @@ fn show(sheet: &[u8], rows: &mut [u32], log: &mut [u32], out: &mut [u8]) -> Sent
     }
     let e = interpret::run(sheet, rows, log);
     interpret::lines(rows, log, e);
-    print_page(
-        out,
-        sheet,
+    let policies = Policies {
         rows,
-        cut(log, CLASSES, ROOM),
-        cut(log, ROOTS, ROOM),
-    );
+        classes: cut(log, CLASSES, ROOM),
+    };
+    page_in(out, sheet, &policies, cut(log, ROOTS, ROOM));
     Sent {
         number: 0,
         length: PAGE,
@@ -50,12 +60,10 @@ fn paged(sheet: &[u8], rows: &mut [u32], work: &mut [u32], out: &mut [u8]) -> Re
     requires { (length rows.old ≡ 16384) × (length work.old ≡ 16384) }
     ensures { Pages sheet.now out.old result.number result.line result.length out.new }
 {
-    let o = open(sheet, true, rows, work);
-    let number = o.number;
-    if number != 0 {
+    if let Err(refusal) = open(sheet, true, rows, work) {
         return Returned {
-            number,
-            line: o.line,
+            number: refusal.fault.into(),
+            line: refusal.line,
             length: 0,
         };
     }

@@ -1,17 +1,17 @@
-// The lines of a page, printed from a place of the lent buffer on. What a run says of each policy is a word of `classes` and one of `roots`.
-// Each call gives the place after its bytes.
+// The lines of a page. What a run says of each policy is a word of its class and one of `roots`.
 ghost use Rattle.std.specs.Prelude.{◌≡◌, suc, ◌-◌, ◌≤◌, get_or};
 ghost use Rattle.table.specs.Layout.{RUN};
-ghost use Rattle.print.specs.Written.{Written};
-ghost use Rattle.response.specs.Verdicts.{decision_of};
+ghost use Rattle.print.specs.Out.{Prints};
+ghost use Rattle.residual.specs.Classes.{class_number};
+ghost use Rattle.tpe.specs.Classes as Called;
+ghost use Rattle.response.specs.Verdicts.{decision_of, effect_said, effect_number};
 ghost use Rattle.page.specs.Said.{first_cell, effect_cell, class_cell, line_at, first_lines, shown_lines, blank_lines_def, page_in};
 
 use crate::cells::{cell, left_off, right_number};
-use forms::PERMIT;
-use print::byte;
-use residual::{CLASS_ERROR, CLASS_FALSE, CLASS_TRUE};
-use response::{Decision, class_of, decision_of, effect_of};
+use print::Out;
+use response::{Decision, Effect, Policies};
 use table::{RUN, count, item, row, text};
+use tpe::Class;
 
 const COLUMNS: usize = 72;
 
@@ -28,144 +28,104 @@ const LINES: u32 = 59;
 const SHOWN: u32 = 58;
 
 // `decision=` and its word.
-fn decision_cell(out: &mut [u8], at: usize, decision: Decision) -> usize
-    ensures { Written out.old at (first_cell (decision_of decision)) out.new result }
+fn decision_cell(out: &mut Out, decision: Decision)
+    ensures { Prints out.old (first_cell (decision_of decision)) out.new }
 {
     match decision {
-        Decision::Allow => cell(out, at, b"decision=allow", COLUMNS),
-        Decision::Deny => cell(out, at, b"decision=deny", COLUMNS),
-        Decision::Open => cell(out, at, b"decision=open", COLUMNS),
+        Decision::Allow => cell(out, b"decision=allow", COLUMNS),
+        Decision::Deny => cell(out, b"decision=deny", COLUMNS),
+        Decision::Open => cell(out, b"decision=open", COLUMNS),
     }
 }
 
 // An effect.
-fn effect_cell(out: &mut [u8], at: usize, effect: u32) -> usize
-    ensures { Written out.old at (effect_cell effect) out.new result }
+fn effect_cell(out: &mut Out, effect: Effect)
+    ensures { Prints out.old (effect_cell (effect_number (effect_said effect))) out.new }
 {
     match effect {
-        PERMIT => cell(out, at, b"permit", WORD),
-        _ => cell(out, at, b"forbid", WORD),
+        Effect::Permit => cell(out, b"permit", WORD),
+        Effect::Forbid => cell(out, b"forbid", WORD),
     }
 }
 
 // A class.
-fn class_cell(out: &mut [u8], at: usize, class: u32) -> usize
-    ensures { Written out.old at (class_cell class) out.new result }
+fn class_cell(out: &mut Out, class: Class)
+    ensures { Prints out.old (class_cell (class_number (Called.class_in class))) out.new }
 {
     match class {
-        CLASS_TRUE => cell(out, at, b"true", WORD),
-        CLASS_FALSE => cell(out, at, b"false", WORD),
-        CLASS_ERROR => cell(out, at, b"error", WORD),
-        _ => cell(out, at, b"open", WORD),
+        Class::True => cell(out, b"true", WORD),
+        Class::False => cell(out, b"false", WORD),
+        Class::Error => cell(out, b"error", WORD),
+        Class::Open => cell(out, b"open", WORD),
     }
 }
 
 // The line of policy `i`, of which so many nodes are left.
-fn policy_line(
-    out: &mut [u8],
-    at: usize,
-    sheet: &[u8],
-    rows: &[u32],
-    classes: &[u32],
-    i: u32,
-    nodes: u64,
-) -> usize
-    ensures { Written out.old at (line_at sheet.now rows.now classes.now i nodes) out.new result }
+fn policy_line(out: &mut Out, sheet: &[u8], policies: &Policies, i: u32, nodes: u64)
+    ensures { Prints out.old (line_at sheet.now policies.now.rows.now policies.now.classes.now i nodes) out.new }
 {
+    let rows = policies.rows;
     let id = text(sheet, rows, item(row(rows, RUN, i), 1));
-    let e = effect_of(rows, i);
-    let c = class_of(classes, i);
-    let k = cell(out, at, id, ID);
-    let l = effect_cell(out, k, e);
-    let m = class_cell(out, l, c);
-    let n = right_number(out, m, nodes, NODES);
-    byte(out, n, b'\n')
+    let effect = policies.effect(i);
+    let class = policies.class(i);
+    cell(out, id, ID);
+    effect_cell(out, effect);
+    class_cell(out, class);
+    right_number(out, nodes, NODES);
+    out.byte(b'\n');
 }
 
 // The nodes after the first `before` ones, up to the root.
 fn nodes_after(before: u64, root: u32) -> u64
     ensures { result ≡ suc root - before }
 {
-    let end = root as u64 + 1;
-    if end < before {
-        return 0;
-    }
-    end - before
+    (root as u64 + 1).saturating_sub(before)
 }
 
 // The lines of the first `n` policies.
-fn policy_lines(
-    out: &mut [u8],
-    at: usize,
-    sheet: &[u8],
-    rows: &[u32],
-    classes: &[u32],
-    roots: &[u32],
-    n: u32,
-) -> usize
-    requires { n ≤ get_or rows.now RUN 0 }
-    ensures { Written out.old at (first_lines sheet.now rows.now classes.now roots.now n) out.new result }
+fn policy_lines(out: &mut Out, sheet: &[u8], policies: &Policies, roots: &[u32], n: u32)
+    requires { n ≤ get_or policies.now.rows.now RUN 0 }
+    ensures { Prints out.old (first_lines sheet.now policies.now.rows.now policies.now.classes.now roots.now n) out.new }
 {
-    let mut i = 0;
-    let mut k = at;
     let mut before = 0;
-    while i < n {
+    for i in 0..n {
         let root = item(roots, i as usize);
         let nodes = nodes_after(before, root);
-        k = policy_line(out, k, sheet, rows, classes, i, nodes);
+        policy_line(out, sheet, policies, i, nodes);
         before = root as u64 + 1;
-        i += 1;
     }
-    k
 }
 
 // So many lines of spaces.
-fn blank_lines(out: &mut [u8], at: usize, n: u32) -> usize
-    ensures { Written out.old at (blank_lines_def n) out.new result }
+fn blank_lines(out: &mut Out, n: u32)
+    ensures { Prints out.old (blank_lines_def n) out.new }
 {
-    let mut i = 0;
-    let mut k = at;
-    while i < n {
-        let l = cell(out, k, b"", COLUMNS);
-        k = byte(out, l, b'\n');
-        i += 1;
+    for i in 0..n {
+        cell(out, b"", COLUMNS);
+        out.byte(b'\n');
     }
-    k
 }
 
 // The lines after the first: those of the policies, or of the first ones and how many are left off.
-fn shown_lines(
-    out: &mut [u8],
-    at: usize,
-    sheet: &[u8],
-    rows: &[u32],
-    classes: &[u32],
-    roots: &[u32],
-) -> usize
-    ensures { Written out.old at (shown_lines sheet.now rows.now classes.now roots.now) out.new result }
+fn shown_lines(out: &mut Out, sheet: &[u8], policies: &Policies, roots: &[u32])
+    ensures { Prints out.old (shown_lines sheet.now policies.now.rows.now policies.now.classes.now roots.now) out.new }
 {
-    let n = count(rows, RUN);
+    let n = count(policies.rows, RUN);
     if n > LINES {
-        let k = policy_lines(out, at, sheet, rows, classes, roots, SHOWN);
-        let l = left_off(out, k, (n - SHOWN) as u64, COLUMNS);
-        return byte(out, l, b'\n');
+        policy_lines(out, sheet, policies, roots, SHOWN);
+        left_off(out, (n - SHOWN) as u64, COLUMNS);
+        out.byte(b'\n');
+        return;
     }
-    let k = policy_lines(out, at, sheet, rows, classes, roots, n);
-    blank_lines(out, k, LINES - n)
+    policy_lines(out, sheet, policies, roots, n);
+    blank_lines(out, LINES - n);
 }
 
 // The whole page.
-pub fn print_page(
-    out: &mut [u8],
-    sheet: &[u8],
-    rows: &[u32],
-    classes: &[u32],
-    roots: &[u32],
-) -> usize
-    ensures { Written out.old 0 (page_in sheet.now rows.now classes.now roots.now) out.new result }
+pub fn print_page(out: &mut Out, sheet: &[u8], policies: &Policies, roots: &[u32])
+    ensures { Prints out.old (page_in sheet.now policies.now.rows.now policies.now.classes.now roots.now) out.new }
 {
-    let d = decision_of(rows, classes);
-    let k = decision_cell(out, 0, d);
-    let l = byte(out, k, b'\n');
-    shown_lines(out, l, sheet, rows, classes, roots)
+    decision_cell(out, policies.decision());
+    out.byte(b'\n');
+    shown_lines(out, sheet, policies, roots);
 }

@@ -9,15 +9,13 @@ use native.Mathlib.Omega.{arith}
 use borrow.Author.Tests.{le-leb, lt-leb, not-true, not-false}
 use lib.ListN.{length, get_or, drop, replicate, drop_of_length-le}
 use Rattle.cedar.proofs.Tools.{no_true, iff}
-use Rattle.sheet.specs.Bytes.{same}
-use Rattle.sheet.proofs.reading.RowTests.{same_is}
+use Rattle.std.specs.Prelude.{nat_eq}
+use Rattle.std.specs.Cmp.Lexicographic.{pointwise, same_text}
 use Rattle.words.proofs.Bits.{added_is}
-use Rattle.fits.specs.Fit.{found_in}
-use Rattle.fits.specs.declared.Found as F
 use Rattle.cedar.specs.Value.{on_some}
 use Rattle.sheet.specs.Forms.{TYPE}
 use Rattle.words.specs.Bits.{member, added}
-use Rattle.fits.proofs.Walks.{next}
+use Rattle.std.proofs.lemmas.List.{drop_more}
 use Rattle.typesets.specs.Sets.{TYPES, Each, Gathered}
 use Rattle.typesets.proofs.Members.{member_zeros, each_none}
 use Rattle.typerows.specs.Types.{attribute_at, each_at}
@@ -57,7 +55,7 @@ abbrev next_at : List ℕ → List ℕ → ℕ → ℕ → Bool
 next_at a r i = step_test a (drop (i + 1) r) (get_or r i 0)
 
 step_next : (a r : List ℕ) (i x : ℕ) → i < length r → step_at a r i x ≡ declared_each a (get_or r (i - 1) 0) (next_at a r i) x
-step_next a r i x l = rw (next r i l) (step_declared a (drop (i + 1) r) (get_or r (i - 1) 0) (get_or r i 0) x)
+step_next a r i x l = rw (drop_more r i 0 l) (step_declared a (drop (i + 1) r) (get_or r (i - 1) 0) (get_or r i 0) x)
 
 -- ---- a step from all record types of a set
 
@@ -142,7 +140,10 @@ module _ (a r : List ℕ) (s y : ℕ) where
     pub path_end : length r ≤ j → true ≡ left_at a r s y
     path_end l = sym (here.says (record { at = λ x o m. ap (λ (us : List ℕ). step_test a us (get_or r (j - 1) 0) x) (drop_of_length-le r {i = j} l) }))
 
-    module _ (t : ℕ) (u reached : List ℕ) (c : Bool) (l : j < length r) (et : t ≡ get_or r (j - 1) 0) (eu : u ≡ replicate 4 0) (q : Gathered u reached (of_step a types t) c) where
+    module _ (t : ℕ) (u reached : List ℕ) (c : Bool) (l : j < length r) (et : t ≡ get_or r (j - 1) 0) (eu : u ≡ replicate 4 0) (a' : List ℕ) (ea : a' ≡ a) (q' : Gathered u reached (of_step a' types t) c) where
+      q : Gathered u reached (of_step a types t) c
+      q = subst (λ (x : List ℕ). Gathered u reached (of_step x types t) c) ea q'
+
       -- what is left asks for the step
       asks_step : Each types (step_at a r j) → of_step a types t (next_at a r j)
       asks_step e = record { at = λ x o m. ap (λ (n : ℕ). declared_each a n (next_at a r j) x) et ∙ sym (step_next a r j x l) ∙ e.at x o m }
@@ -158,9 +159,9 @@ module _ (a r : List ℕ) (s y : ℕ) where
         path_on = path_step_law a r s y types reached j here l steps
 
         -- the set is as it was
-        module _ (v : Bool) (ev : v ≡ same types reached) (o : v ≡ true) where
+        module _ (v : Bool) (ev : v ≡ pointwise nat_eq types reached) (o : v ≡ true) where
           as_was : reached ≡ types
-          as_was = sym (same_is types reached (sym ev ∙ o))
+          as_was = sym (same_text types reached (sym o ∙ ev))
 
           pub path_same : Path a r s y types (j + 1)
           path_same = subst (λ (n : List ℕ). Path a r s y n (j + 1)) as_was path_on
@@ -204,17 +205,17 @@ module _ (a r : List ℕ) (y n : ℕ) (en : n ≡ get_or a TYPE 0) where
       pub single_end : length r ≤ i → true ≡ path_at a r y
       single_end l = sym (path_few ∙ one_record ∙ ap (λ (us : List ℕ). step_test a us (get_or r (i - 1) 0) x) (drop_of_length-le r {i = i} l))
 
-      module _ (l : i < length r) (t : ℕ) (f : F.Found) (et : t ≡ get_or r (i - 1) 0) (ef : found_in f ≡ attribute_at a x t) where
+      module _ (l : i < length r) (t : ℕ) (et : t ≡ get_or r (i - 1) 0) where
         single_step : left_at a r i z ≡ on_some true (attribute_at a x t) (rest_at a r i)
-        single_step = one_record ∙ rw (next r i l, ← et)
+        single_step = one_record ∙ rw (drop_more r i 0 l, ← et)
 
-        pub single_free : f ≡ F.TheVariants.Undeclared → true ≡ path_at a r y
-        single_free h = sym (path_few ∙ single_step ∙ ap (λ (o : Option ℕ). on_some true o (rest_at a r i)) (sym ef ∙ ap found_in h))
+        pub single_free : none ≡ attribute_at a x t → true ≡ path_at a r y
+        single_free e = sym (path_few ∙ single_step ∙ ap (λ (o : Option ℕ). on_some true o (rest_at a r i)) (sym e))
 
-        pub single_on : (v : ℕ) → f ≡ F.TheVariants.As v → Single a r y v (i + 1)
-        single_on v h =
+        pub single_on : (v : ℕ) → some v ≡ attribute_at a x t → Single a r y v (i + 1)
+        single_on v e =
             let j : i + 1 - 1 ≡ i = omega arith in
             record {
-              left = w.left ∙ single_step ∙ ap (λ (o : Option ℕ). on_some true o (rest_at a r i)) (sym ef ∙ ap found_in h) ∙ ap (λ (k : ℕ). path_from a (drop (i + 1) r) (get_or r k 0) v) (sym j);
+              left = w.left ∙ single_step ∙ ap (λ (o : Option ℕ). on_some true o (rest_at a r i)) (sym e) ∙ ap (λ (k : ℕ). path_from a (drop (i + 1) r) (get_or r k 0) v) (sym j);
               low = omega (arith, w.low);
             }

@@ -9,15 +9,14 @@ use native.Mathlib.Omega.{arith}
 use native.Mathlib.Decide.{dec_lt}
 use Rattle.cedar.proofs.Tools.{no_true, both, and_both}
 use borrow.Author.Tests.{not-true, not-false}
-use lib.ListN.{length, get_or, get_or-eq_default}
+use lib.ListN.{length, get_or, drop, drop_of_length-le, get_or-eq_default}
 use Rattle.cedar.specs.Value.{on_some}
 use Rattle.sheet.specs.Forms.{tag, TYPE}
 use Rattle.sheet.specs.State.{TypeRow, bool, long, string, entity, set', record', type_row}
 use Rattle.sheet.specs.Typing.{on_entity, on_record, all_in}
 use Rattle.words.specs.Bits.{added}
-use Rattle.fits.specs.Fit.{kinds_from, kinds_end, found_in}
-use Rattle.fits.specs.declared.Found as F
-use Rattle.fits.proofs.KindLaws.{kinds_first, kinds_next, kinds_end_law}
+use Rattle.fits.specs.Fit.{kinds_in}
+use Rattle.std.proofs.lemmas.List.{drop_more}
 use Rattle.table.specs.Layout.{rows_of}
 use Rattle.table.proofs.Rows.{count_rows}
 use Rattle.forms.specs.Tags.{ENTITY_TYPE}
@@ -101,41 +100,34 @@ module _ (a : List ℕ) (y : ℕ) where
 
 -- ---- the kinds of a row
 
--- what is left of row r's kinds, from word i on
-pub record Kinded (a w r v : List ℕ) (i : ℕ) : Type 0 where
-  pub turned : Turned w (of_row a r) v (λ f. all_in (of_kind a f) (kinds_from r i) ≡ true)
-  pub low : 1 ≤ i
+-- what is left of row r's kinds l, from kind i on
+pub record Kinded (a w r l v : List ℕ) (i : ℕ) : Type 0 where
+  pub turned : Turned w (of_row a r) v (λ f. all_in (of_kind a f) (drop i l) ≡ true)
 
-module _ (a w r : List ℕ) where
-  pub kinded_start : Kinded a w r w 1
-  kinded_start = record {
-    turned = turn_start w (of_row a r) (λ f. all_in (of_kind a f) (kinds_from r 1) ≡ true)
-        (λ f e. ap (all_in (of_kind a f)) (kinds_first r) ∙ e)
-        (λ f e. sym (ap (all_in (of_kind a f)) (kinds_first r)) ∙ e);
-    low = omega arith;
-  }
+module _ (a w r l : List ℕ) where
+  pub kinded_start : l ≡ kinds_in r → Kinded a w r l w 0
+  kinded_start el = record { turned = turn_start w (of_row a r) (λ f. all_in (of_kind a f) l ≡ true) (λ f e. ap (all_in (of_kind a f)) el ∙ e) (λ f e. ap (all_in (of_kind a f)) (sym el) ∙ e) }
 
-  module _ (v : List ℕ) (i n : ℕ) (k : Kinded a w r v i) (en : n ≡ kinds_end r) where
-    pub kinded_end : n ≤ i → Gathered w v (of_row a r) true
-    kinded_end h = turn_done w v (of_row a r) (λ f. all_in (of_kind a f) (kinds_from r i) ≡ true) k.turned (λ f. ap (all_in (of_kind a f)) (kinds_end_law r i (omega arith)))
+  module _ (v : List ℕ) (i : ℕ) (k : Kinded a w r l v i) where
+    pub kinded_end : length l ≤ i → Gathered w v (of_row a r) true
+    kinded_end h = turn_done w v (of_row a r) (λ f. all_in (of_kind a f) (drop i l) ≡ true) k.turned (λ f. ap (all_in (of_kind a f)) (drop_of_length-le l h))
 
-    module _ (x z : ℕ) (u : List ℕ) (b : Bool) (h : i < n) (ex : x ≡ get_or r i 0) (ez : z ≡ attribute_type_at a x) (d : Gathered v u (of_type a z) b) where
-      kind_step : (f : ℕ → Bool) → all_in (of_kind a f) (kinds_from r i) ≡ (of_record a f z && all_in (of_kind a f) (kinds_from r (i + 1)))
+    module _ (z : ℕ) (u : List ℕ) (b : Bool) (h : i < length l) (ez : z ≡ attribute_type_at a (get_or l i 0)) (d : Gathered v u (of_type a z) b) where
+      kind_step : (f : ℕ → Bool) → all_in (of_kind a f) (drop i l) ≡ (of_record a f z && all_in (of_kind a f) (drop (i + 1) l))
       unfolding of_kind
-      kind_step f = rw (kinds_next r i k.low (omega arith), ← ex, ← ez)
+      kind_step f = rw (drop_more l i 0 h, ← ez)
 
-      first_kind : (f : ℕ → Bool) → all_in (of_kind a f) (kinds_from r i) ≡ true → of_record a f z ≡ true
-      first_kind f e = and_both (of_record a f z) (all_in (of_kind a f) (kinds_from r (i + 1))) (sym (kind_step f) ∙ e) (λ p q. p)
+      first_kind : (f : ℕ → Bool) → all_in (of_kind a f) (drop i l) ≡ true → of_record a f z ≡ true
+      first_kind f e = and_both (of_record a f z) (all_in (of_kind a f) (drop (i + 1) l)) (sym (kind_step f) ∙ e) (λ p q. p)
 
-      pub kinded_off : not b ≡ true → Gathered w u (of_row a r) false
-      kinded_off e = turn_off w v (of_row a r) (λ f. all_in (of_kind a f) (kinds_from r i) ≡ true) k.turned u (of_type a z) b d (not-true b e) first_kind
+      pub kinded_off : b ≡ false → Gathered w u (of_row a r) false
+      kinded_off e = turn_off w v (of_row a r) (λ f. all_in (of_kind a f) (drop i l) ≡ true) k.turned u (of_type a z) b d e first_kind
 
-      pub kinded_on : not b ≡ false → Kinded a w r u (i + 1)
+      pub kinded_on : b ≡ true → Kinded a w r l u (i + 1)
       kinded_on e = record {
-        turned = turn_on w v (of_row a r) (λ f. all_in (of_kind a f) (kinds_from r i) ≡ true) k.turned u (of_type a z) b d (λ f. all_in (of_kind a f) (kinds_from r (i + 1)) ≡ true) (not-false b e) first_kind
-            (λ f q. and_both (of_record a f z) (all_in (of_kind a f) (kinds_from r (i + 1))) (sym (kind_step f) ∙ q) (λ x y. y))
+        turned = turn_on w v (of_row a r) (λ f. all_in (of_kind a f) (drop i l) ≡ true) k.turned u (of_type a z) b d (λ f. all_in (of_kind a f) (drop (i + 1) l) ≡ true) e first_kind
+            (λ f q. and_both (of_record a f z) (all_in (of_kind a f) (drop (i + 1) l)) (sym (kind_step f) ∙ q) (λ x y. y))
             (λ f p q. kind_step f ∙ both p q);
-        low = omega (arith, k.low);
       }
 
 -- ---- a type
@@ -149,13 +141,13 @@ module _ (a w v q : List ℕ) (y k : ℕ) (b : Bool) (eq : q ≡ get_or (rows_of
 
 -- ---- what a record type declares
 
-module _ (a w : List ℕ) (y t : ℕ) (d : F.Found) (ed : found_in d ≡ attribute_at a y t) where
-  pub declared_none : d ≡ F.TheVariants.Undeclared → Gathered w w (of_declared a t y) true
-  declared_none h = nothing_asked w (of_declared a t y) (λ f. ap (λ (o : Option ℕ). on_some true o (λ z. each_at a z f)) (sym ed ∙ ap found_in h))
+module _ (a w : List ℕ) (y t : ℕ) where
+  pub declared_none : none ≡ attribute_at a y t → Gathered w w (of_declared a t y) true
+  declared_none e = nothing_asked w (of_declared a t y) (λ f. ap (λ (o : Option ℕ). on_some true o (λ z. each_at a z f)) (sym e))
 
-  module _ (z n : ℕ) (h : d ≡ F.TheVariants.As z) where
+  module _ (z n : ℕ) (e : some z ≡ attribute_at a y t) where
     declared_is : (f : ℕ → Bool) → declared_each a t f y ≡ each_at a z f
-    declared_is f = ap (λ (o : Option ℕ). on_some true o (λ z. each_at a z f)) (sym ed ∙ ap found_in h)
+    declared_is f = ap (λ (o : Option ℕ). on_some true o (λ z. each_at a z f)) (sym e)
 
     pub declared_out : n ≡ get_or a TYPE 0 → n ≤ z → Gathered w w (of_declared a t y) false
     declared_out en l = never_passes w w (of_declared a t y) (λ f e. let m = each_there a z f (sym (declared_is f) ∙ e) in absurd (omega (arith, m)))

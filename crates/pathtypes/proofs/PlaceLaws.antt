@@ -1,24 +1,21 @@
--- The one record type of a type; steps that leave a set as it is; sets that are the same.
+-- The one record type of a type; steps that leave a set as it is.
 use mathlib.Core.Path.{◌≡◌, refl, sym, ap, ◌∙◌}
 use mathlib.Core.Bool.{Bool, true, false, not, ◌&&◌}
 use mathlib.Core.List.{List, []}
 use mathlib.Core.Option.{Option, some}
-use Prim.Native.Nat.{ℕ, ◌+◌, ◌-◌, ◌≤◌, ◌<◌}
+use Prim.Native.Nat.{ℕ, max, ◌+◌, ◌-◌, ◌≤◌, ◌<◌}
 use native.Mathlib.Omega.{arith}
 use native.Mathlib.Decide.{dec_lt, ℕ_discrete}
-use borrow.Author.Tests.{eq-eqb, ne_eqb, not-false}
-use lib.Dec.{eqb}
-use lib.ListN.{length, get_or, drop, drop_of_length-le}
+use borrow.Author.Tests.{not-false}
+use lib.ListN.{length, get_or, drop_of_length-le}
 use Rattle.cedar.proofs.Tools.{no_true, both, and_both}
 use Rattle.cedar.specs.Value.{on_some}
-use Rattle.sheet.specs.Bytes.{same}
 use Rattle.sheet.specs.Forms.{tag, TYPE}
 use Rattle.sheet.specs.Typing.{all_in}
 use Rattle.words.specs.Bits.{member}
 use Rattle.forms.specs.Tags.{ENTITY_TYPE, RECORD_TYPE}
 use Rattle.table.specs.Layout.{rows_of}
 use Rattle.fits.specs.Fit.{kinds_in}
-use Rattle.fits.proofs.Walks.{next}
 use Rattle.typesets.specs.Sets.{Asked}
 use Rattle.typerows.specs.Types.{always, record_at, attribute_type_at, of_record, of_kind}
 use Rattle.typerows.proofs.KindWalks.{each_kinds, each_record}
@@ -123,6 +120,9 @@ module _ (a q : List ℕ) (y k : ℕ) (eq : q ≡ get_or (rows_of a TYPE) y []) 
 -- ---- `skip`
 
 module _ (r texts : List ℕ) (s : ℕ) where
+  pub skip_end : (i n : ℕ) → Skipped r texts s i → length r ≤ i → n ≡ max s (length r) → Skipped r texts s n
+  skip_end i n w h e = record { low = omega arith; each = λ k l m. w.each k l (omega arith) }
+
   pub skip_start : Skipped r texts s s
   skip_start = record { low = omega arith; each = λ k l h. absurd (omega arith) }
 
@@ -135,28 +135,3 @@ module _ (r texts : List ℕ) (s : ℕ) where
       go : (k : ℕ) → Dec (k ≡ i) → s ≤ k → k < i + 1 → (k < length r) × (member texts (get_or r (k - 1) 0) ≡ true)
       go k (yes e) p q = (omega (arith, e), ap (λ (j : ℕ). member texts (get_or r (j - 1) 0)) e ∙ ap (member texts) (sym ex) ∙ sym eb ∙ not-false b h)
       go k (no e) p q = w.each k p (omega (arith, e))
-
--- ---- `is_same`
-
--- what is left of two sets decides
-pub record Sames (x y : List ℕ) (w : ℕ) : Type 0 where
-  pub left : same x y ≡ same (drop w x) (drop w y)
-
-pub same_start : (x y : List ℕ) → Sames x y 0
-same_start x y = record { left = refl }
-
-module _ (x y : List ℕ) (w : ℕ) (k : Sames x y w) (e : length x ≡ length y) where
-  pub same_end : length x ≤ w → true ≡ same x y
-  same_end h =
-      let g : length y ≤ w = omega arith in
-      sym (k.left ∙ rw (drop_of_length-le x h, drop_of_length-le y g))
-
-  module _ (u v : ℕ) (l : w < length x) (eu : u ≡ get_or x w 0) (ev : v ≡ get_or y w 0) where
-    same_step : same (drop w x) (drop w y) ≡ (eqb u v && same (drop (w + 1) x) (drop (w + 1) y))
-    same_step = let g : w < length y = omega arith in rw (next x w l, next y w g, ← eu, ← ev)
-
-    pub same_off : (u ≡ v → ⊥) → false ≡ same x y
-    same_off n = sym (k.left ∙ same_step ∙ rw (ne_eqb u v n))
-
-    pub same_on : u ≡ v → Sames x y (w + 1)
-    same_on n = record { left = k.left ∙ same_step ∙ rw (eq-eqb u v n) }

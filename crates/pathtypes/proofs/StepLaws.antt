@@ -20,23 +20,25 @@ use Rattle.pathtypes.specs.Paths.{declared_each, of_declared, of_step, of_place,
 pub seen_none : (a texts images : List ℕ) → Seen a texts (replicate (SLOTS * TYPE_WORDS) 0) images
 seen_none a texts images = record { at = λ p m. no_true (sym (member_zeros (SLOTS * TYPE_WORDS) p) ∙ m) }
 
-module _ (a texts seen w : List ℕ) (p : ℕ) (k : Seen a texts seen w) where
-  pub look_known : (b : Bool) → b ≡ member seen p → b ≡ true → PlacedIn a texts w p true
-  look_known b e h = k.at p (sym e ∙ h)
+pub look_known : (a texts seen w : List ℕ) (p : ℕ) (k : Seen a texts seen w) (b : Bool) → b ≡ member seen p → b ≡ true → PlacedIn a texts w p true
+look_known a texts seen w p k b e h = k.at p (sym e ∙ h)
 
-  module _ (own : List ℕ) (b : Bool) (t : ℕ) (et : t ≡ get_or texts (p / TYPES) 0) (d : Gathered (replicate TYPE_WORDS 0) own (of_declared a t (p % TYPES)) b) where
-    g : Gathered (replicate TYPE_WORDS 0) own (of_place a texts p) b
-    g = subst (λ (x : ℕ). Gathered (replicate TYPE_WORDS 0) own (of_declared a x (p % TYPES)) b) et d
+module _ (a texts w own : List ℕ) (p : ℕ) (b : Bool) (t : ℕ) (et : t ≡ get_or texts (p / TYPES) 0) (d : Gathered (replicate TYPE_WORDS 0) own (of_declared a t (p % TYPES)) b) where
+  g : Gathered (replicate TYPE_WORDS 0) own (of_place a texts p) b
+  g = subst (λ (x : ℕ). Gathered (replicate TYPE_WORDS 0) own (of_declared a x (p % TYPES)) b) et d
 
-    pub look_off : not b ≡ true → PlacedIn a texts w p false
-    look_off = held_off (of_place a texts) w p own b g
+  pub look_off : not b ≡ true → PlacedIn a texts w p false
+  look_off = held_off (of_place a texts) w p own b g
 
-    module _ (v : List ℕ) (h : not b ≡ false) (l : length own ≡ TYPE_WORDS) (lw : length w ≡ PLACES * TYPE_WORDS) (s : p < PLACES) (ev : v ≡ sets w (p * TYPE_WORDS) own) where
-      pub look_own : PlacedIn a texts v p true
-      look_own = held_own (of_place a texts) w p own b g v h l (omega arith) ev
+  module _ (v : List ℕ) (h : not b ≡ false) (l : length own ≡ TYPE_WORDS) (lw : length w ≡ PLACES * TYPE_WORDS) (s : p < PLACES) (ev : v ≡ sets w (p * TYPE_WORDS) own) where
+    pub look_own : PlacedIn a texts v p true
+    look_own = held_own (of_place a texts) w p own b g v h l (omega arith) ev
 
-      pub look_kept : (now : List ℕ) → now ≡ added seen p → Seen a texts now v
-      look_kept now en = record { at = held_kept (of_place a texts) w p own b g v h l (omega arith) ev seen now k.at en }
+    -- rows and texts are as they were
+    pub look_kept : (a' texts' seen now : List ℕ) → a' ≡ a → texts' ≡ texts → Seen a' texts' seen w → now ≡ added seen p → Seen a' texts' now v
+    look_kept a' texts' seen now ea es k en =
+        let g' : Gathered (replicate TYPE_WORDS 0) own (of_place a' texts' p) b = subst (λ (x : List ℕ). Gathered (replicate TYPE_WORDS 0) own (of_place x texts' p) b) (sym ea) (subst (λ (x : List ℕ). Gathered (replicate TYPE_WORDS 0) own (of_place a x p) b) (sym es) g) in
+        record { at = held_kept (of_place a' texts') w p own b g' v h l (omega arith) ev seen now k.at en }
 
 module _ (a texts w v : List ℕ) (p : ℕ) (b : Bool) (g : PlacedIn a texts v p b) where
   pub place_off : not b ≡ true → Gathered w w (of_place a texts p) false
@@ -58,7 +60,11 @@ module _ (a texts w s v : List ℕ) (n y : ℕ) (k : Walked (declared_each a (ge
   pub places_end : TYPES ≤ y → length s ≡ 4 → Gathered w v (of_slot a texts s n) true
   places_end = walk_end (declared_each a (get_or texts n 0)) w s v y k
 
-  module _ (u : List ℕ) (b : Bool) (d : Gathered v u (of_place a texts (n * TYPES + y)) b) (h : y < TYPES) where
+  -- rows and texts are as they were
+  module _ (a' texts' : List ℕ) (ea : a' ≡ a) (et : texts' ≡ texts) (u : List ℕ) (b : Bool) (d' : Gathered v u (of_place a' texts' (n * TYPES + y)) b) (h : y < TYPES) where
+    d : Gathered v u (of_place a texts (n * TYPES + y)) b
+    d = subst (λ (x : List ℕ). Gathered v u (of_place x texts (n * TYPES + y)) b) ea (subst (λ (x : List ℕ). Gathered v u (of_place a' x (n * TYPES + y)) b) et d')
+
     here : Gathered v u (λ f. declared_each a (get_or texts n 0) f y ≡ true) b
     here = gathered_as (of_place a texts (n * TYPES + y)) (λ f. declared_each a (get_or texts n 0) f y ≡ true) (λ f e. sym (at_place a texts n y f h) ∙ e) (λ f e. at_place a texts n y f h ∙ e) d
 

@@ -3,12 +3,11 @@
 #![tactic(auto)]
 
 ghost use Rattle.std.specs.Prelude.{◌≡◌, true, ◌-◌, ◌*◌, ◌≤◌, ◌<◌, length, get_or, drop};
-ghost use Rattle.sheet.specs.Bytes.{same};
 ghost use Rattle.sheet.specs.Forms.{TYPE};
 ghost use Rattle.typesets.specs.Sets.{TYPES, TYPE_WORDS, SLOTS, PLACES, Gathered, set_at};
 ghost use Rattle.pathtypes.specs.Paths.{SETS, Skipped, Placed, PlaceOf, RecordsOf, Learned, PlacedIn, Seen, of_type, of_row, of_each, of_declared, of_step, of_place, of_slot, path_from, path_at};
 
-use fits::{Found, kinds_end};
+use fits::kinds;
 use forms::{ENTITY_TYPE, RECORD_TYPE, TYPE};
 use table::{count, item, row, tag};
 use typerows::{attribute, attribute_type, is_record};
@@ -20,27 +19,15 @@ const SETS: usize = TYPES * TYPE_WORDS;
 
 const TEXT_WORDS: usize = 16;
 
+// Those of the places that are seen, and of a set for each place.
+const SEEN: usize = SLOTS * TYPE_WORDS;
+
+const IMAGES: usize = PLACES * TYPE_WORDS;
+
 // The words of a long record type, and the fewest steps for which it is searched once for each text.
 const LONG: usize = 96;
 
 const FEW: usize = 16;
-
-// ---- sets
-
-// Whether two sets are the same.
-fn is_same(set: &[u32], other: &[u32]) -> bool
-    requires { length set.now ≡ length other.now }
-    ensures { result ≡ same set.now other.now }
-{
-    let mut w: usize = 0;
-    while w < set.len() {
-        if read(set, w) != read(other, w) {
-            return false;
-        }
-        w += 1;
-    }
-    true
-}
 
 // ---- the record types of types
 
@@ -61,13 +48,10 @@ fn add_kinds(rows: &[u32], records: &mut [u32], type_row: &[u32]) -> bool
     requires { (get_or rows.now TYPE 0 ≤ TYPES) × (length records.old ≡ TYPE_WORDS) }
     ensures { Gathered records.old records.new (of_row rows.now type_row.now) result }
 {
-    let end = kinds_end(type_row);
-    let mut i: usize = 1;
-    while i < end {
-        if !add_record(rows, records, attribute_type(rows, item(type_row, i))) {
+    for &kind in kinds(type_row) {
+        if !add_record(rows, records, attribute_type(rows, kind)) {
             return false;
         }
-        i += 1;
     }
     true
 }
@@ -84,197 +68,154 @@ fn add_type(rows: &[u32], records: &mut [u32], ty: u32) -> bool
     add_record(rows, records, ty)
 }
 
-// The record types of a type in its own set among `sets`, worked out unless they are known.
-fn learn(rows: &[u32], known: &mut [u32], sets: &mut [u32], ty: usize) -> bool
-    requires { (get_or rows.now TYPE 0 ≤ TYPES) × (length known.old ≡ TYPE_WORDS) × (length sets.old ≡ SETS) × Learned rows.now known.old sets.old × (ty < TYPES) }
-    ensures { RecordsOf rows.now (set_at sets.new ty) ty result × Learned rows.now known.new sets.new }
-{
-    if has(known, ty) {
-        return true;
-    }
-    let mut own = [0u32; TYPE_WORDS];
-    if !add_type(rows, &mut own, ty as u32) {
-        return false;
-    }
-    store(sets, ty * TYPE_WORDS, &own);
-    add(known, ty);
-    true
+// What is worked out while a path is typed, so that nothing is twice: the record types of types, and those that record types reach by texts.
+#[derive(Drop)]
+struct Memory<'a> {
+    rows: &'a [u32],
+    // The types whose record types are known, and a set of these for each.
+    known: [u32; TYPE_WORDS],
+    sets: [u32; SETS],
+    // The texts of the slots, the places that are seen, and a set of what is reached for each.
+    texts: [u32; SLOTS],
+    seen: [u32; SEEN],
+    images: [u32; IMAGES],
+    ghost few: { get_or rows.now TYPE 0 ≤ TYPES },
+    ghost learned: { Learned rows.now known sets },
+    ghost looked: { Seen rows.now texts seen images },
 }
 
-// The record types of a type.
-fn add_known(
-    rows: &[u32],
-    known: &mut [u32],
-    sets: &mut [u32],
-    records: &mut [u32],
-    ty: usize,
-) -> bool
-    requires { (get_or rows.now TYPE 0 ≤ TYPES) × (length known.old ≡ TYPE_WORDS) × (length sets.old ≡ SETS) × (length records.old ≡ TYPE_WORDS) × Learned rows.now known.old sets.old × (ty < TYPES) }
-    ensures { Gathered records.old records.new (of_each rows.now ty) result × Learned rows.now known.new sets.new }
-{
-    if !learn(rows, known, sets, ty) {
-        return false;
-    }
-    join(
-        records,
-        cut(sets, ty * TYPE_WORDS, ty * TYPE_WORDS + TYPE_WORDS),
-    );
-    true
-}
-
-// ---- what a record type reaches by a text
-
-// The record types of the type that a record type declares for a text, if it declares one.
-fn add_declared(
-    rows: &[u32],
-    known: &mut [u32],
-    sets: &mut [u32],
-    records: &mut [u32],
-    ty: u32,
-    text: u32,
-) -> bool
-    requires { (get_or rows.now TYPE 0 ≤ TYPES) × (length known.old ≡ TYPE_WORDS) × (length sets.old ≡ SETS) × (length records.old ≡ TYPE_WORDS) × Learned rows.now known.old sets.old }
-    ensures { Gathered records.old records.new (of_declared rows.now text ty) result × Learned rows.now known.new sets.new }
-{
-    let f = attribute(rows, ty, text);
-    let Found::As(z) = f else {
-        return true;
-    };
-    if z >= count(rows, TYPE) {
-        return false;
-    }
-    add_known(rows, known, sets, records, z as usize)
-}
-
-// Those of the record type and the text of a place, in their own set among `images`, worked out unless they are seen.
-fn look(
-    rows: &[u32],
-    known: &mut [u32],
-    sets: &mut [u32],
-    texts: &[u32],
-    seen: &mut [u32],
-    images: &mut [u32],
-    place: usize,
-) -> bool
-    requires { (get_or rows.now TYPE 0 ≤ TYPES) × (length known.old ≡ TYPE_WORDS) × (length sets.old ≡ SETS) × (length texts.now ≡ SLOTS) × (length seen.old ≡ SLOTS * TYPE_WORDS) × (length images.old ≡ PLACES * TYPE_WORDS) × Learned rows.now known.old sets.old × Seen rows.now texts.now seen.old images.old × (place < PLACES) }
-    ensures { PlacedIn rows.now texts.now images.new place result × Learned rows.now known.new sets.new × Seen rows.now texts.now seen.new images.new }
-{
-    if has(seen, place) {
-        return true;
-    }
-    let mut own = [0u32; TYPE_WORDS];
-    let text = read(texts, place / TYPES);
-    if !add_declared(rows, known, sets, &mut own, (place % TYPES) as u32, text) {
-        return false;
-    }
-    store(images, place * TYPE_WORDS, &own);
-    add(seen, place);
-    true
-}
-
-// They join a set.
-fn add_place(
-    rows: &[u32],
-    known: &mut [u32],
-    sets: &mut [u32],
-    texts: &[u32],
-    seen: &mut [u32],
-    images: &mut [u32],
-    reached: &mut [u32],
-    place: usize,
-) -> bool
-    requires { (get_or rows.now TYPE 0 ≤ TYPES) × (length known.old ≡ TYPE_WORDS) × (length sets.old ≡ SETS) × (length texts.now ≡ SLOTS) × (length seen.old ≡ SLOTS * TYPE_WORDS) × (length images.old ≡ PLACES * TYPE_WORDS) × (length reached.old ≡ TYPE_WORDS) × Learned rows.now known.old sets.old × Seen rows.now texts.now seen.old images.old × (place < PLACES) }
-    ensures { Gathered reached.old reached.new (of_place rows.now texts.now place) result × Learned rows.now known.new sets.new × Seen rows.now texts.now seen.new images.new }
-{
-    if !look(rows, known, sets, texts, seen, images, place) {
-        return false;
-    }
-    join(
-        reached,
-        cut(images, place * TYPE_WORDS, place * TYPE_WORDS + TYPE_WORDS),
-    );
-    true
-}
-
-// Those of all record types of a set.
-fn add_places(
-    rows: &[u32],
-    known: &mut [u32],
-    sets: &mut [u32],
-    texts: &[u32],
-    seen: &mut [u32],
-    images: &mut [u32],
-    reached: &mut [u32],
-    records: &[u32],
-    slot: usize,
-) -> bool
-    requires { (get_or rows.now TYPE 0 ≤ TYPES) × (length known.old ≡ TYPE_WORDS) × (length sets.old ≡ SETS) × (length texts.now ≡ SLOTS) × (length seen.old ≡ SLOTS * TYPE_WORDS) × (length images.old ≡ PLACES * TYPE_WORDS) × (length reached.old ≡ TYPE_WORDS) × (length records.now ≡ TYPE_WORDS) × Learned rows.now known.old sets.old × Seen rows.now texts.now seen.old images.old × (slot < SLOTS) }
-    ensures { Gathered reached.old reached.new (of_slot rows.now texts.now records.now slot) result × Learned rows.now known.new sets.new × Seen rows.now texts.now seen.new images.new }
-{
-    let mut y = next(records, 0);
-    while y < TYPES {
-        if !add_place(
-            rows,
-            known,
-            sets,
-            texts,
-            seen,
-            images,
-            reached,
-            slot * TYPES + y,
-        ) {
+impl<'a> Memory<'a> {
+    // The record types of a type are in its own set among `sets`, worked out unless they are known.
+    fn learn(&mut self, ty: usize) -> bool
+        requires { ty < TYPES }
+        ensures set { RecordsOf self.old.rows.now (set_at self.new.sets ty) ty result }
+        ensures rows { self.new.rows.now ≡ self.old.rows.now }
+        ensures texts { self.new.texts ≡ self.old.texts }
+    {
+        if has(&self.known, ty) {
+            return true;
+        }
+        let mut own = [0u32; TYPE_WORDS];
+        if !add_type(self.rows, &mut own, ty as u32) {
             return false;
         }
-        y = next(records, y + 1);
+        store(&mut self.sets, ty * TYPE_WORDS, &own);
+        add(&mut self.known, ty);
+        true
     }
-    true
-}
 
-// ---- a step
-
-// Those that all record types of a set reach by the text of a slot.
-fn add_step(
-    rows: &[u32],
-    known: &mut [u32],
-    sets: &mut [u32],
-    texts: &[u32],
-    seen: &mut [u32],
-    images: &mut [u32],
-    reached: &mut [u32],
-    records: &[u32],
-    slot: usize,
-) -> bool
-    requires { (get_or rows.now TYPE 0 ≤ TYPES) × (length known.old ≡ TYPE_WORDS) × (length sets.old ≡ SETS) × (length texts.now ≡ SLOTS) × (length seen.old ≡ SLOTS * TYPE_WORDS) × (length images.old ≡ PLACES * TYPE_WORDS) × (length reached.old ≡ TYPE_WORDS) × (length records.now ≡ TYPE_WORDS) × Learned rows.now known.old sets.old × Seen rows.now texts.now seen.old images.old × (slot < SLOTS) }
-    ensures { Gathered reached.old reached.new (of_slot rows.now texts.now records.now slot) result × Learned rows.now known.new sets.new × Seen rows.now texts.now seen.new images.new }
-{
-    if are_seen(seen, records, slot) {
-        join_places(images, reached, records, slot);
-        return true;
+    // The record types of a type join a set.
+    fn add_known(&mut self, records: &mut [u32], ty: usize) -> bool
+        requires { (length records.old ≡ TYPE_WORDS) × (ty < TYPES) }
+        ensures gathered { Gathered records.old records.new (of_each self.old.rows.now ty) result }
+        ensures rows { self.new.rows.now ≡ self.old.rows.now }
+        ensures texts { self.new.texts ≡ self.old.texts }
+    {
+        if !self.learn(ty) {
+            return false;
+        }
+        join(
+            records,
+            cut(&self.sets, ty * TYPE_WORDS, ty * TYPE_WORDS + TYPE_WORDS),
+        );
+        true
     }
-    add_places(
-        rows, known, sets, texts, seen, images, reached, records, slot,
-    )
-}
 
-// Those that they reach by a text.
-fn step(
-    rows: &[u32],
-    known: &mut [u32],
-    sets: &mut [u32],
-    texts: &mut [u32],
-    seen: &mut [u32],
-    images: &mut [u32],
-    reached: &mut [u32],
-    records: &[u32],
-    text: u32,
-) -> bool
-    requires { (get_or rows.now TYPE 0 ≤ TYPES) × (length known.old ≡ TYPE_WORDS) × (length sets.old ≡ SETS) × (length texts.old ≡ SLOTS) × (length seen.old ≡ SLOTS * TYPE_WORDS) × (length images.old ≡ PLACES * TYPE_WORDS) × (length reached.old ≡ TYPE_WORDS) × (length records.now ≡ TYPE_WORDS) × Learned rows.now known.old sets.old × Seen rows.now texts.old seen.old images.old }
-    ensures { Gathered reached.old reached.new (of_step rows.now records.now text) result × Learned rows.now known.new sets.new × Seen rows.now texts.new seen.new images.new }
-{
-    let slot = settle(texts, seen, text);
-    add_step(
-        rows, known, sets, texts, seen, images, reached, records, slot,
-    )
+    // The record types of the type that a record type declares for a text join a set, if it declares one.
+    fn add_declared(&mut self, records: &mut [u32], ty: u32, text: u32) -> bool
+        requires { length records.old ≡ TYPE_WORDS }
+        ensures gathered { Gathered records.old records.new (of_declared self.old.rows.now text ty) result }
+        ensures rows { self.new.rows.now ≡ self.old.rows.now }
+        ensures texts { self.new.texts ≡ self.old.texts }
+    {
+        let Some(z) = attribute(self.rows, ty, text) else {
+            return true;
+        };
+        if z >= count(self.rows, TYPE) {
+            return false;
+        }
+        self.add_known(records, z as usize)
+    }
+
+    // Those of the record type and the text of a place are in their own set among `images`, worked out unless they are seen.
+    fn look(&mut self, place: usize) -> bool
+        requires { place < PLACES }
+        ensures placed { PlacedIn self.old.rows.now self.old.texts self.new.images place result }
+        ensures rows { self.new.rows.now ≡ self.old.rows.now }
+        ensures texts { self.new.texts ≡ self.old.texts }
+    {
+        if has(&self.seen, place) {
+            return true;
+        }
+        let mut own = [0u32; TYPE_WORDS];
+        let text = self.texts[place / TYPES];
+        if !self.add_declared(&mut own, (place % TYPES) as u32, text) {
+            return false;
+        }
+        store(&mut self.images, place * TYPE_WORDS, &own);
+        add(&mut self.seen, place);
+        true
+    }
+
+    // They join a set.
+    fn add_place(&mut self, reached: &mut [u32], place: usize) -> bool
+        requires { (length reached.old ≡ TYPE_WORDS) × (place < PLACES) }
+        ensures gathered { Gathered reached.old reached.new (of_place self.old.rows.now self.old.texts place) result }
+        ensures rows { self.new.rows.now ≡ self.old.rows.now }
+        ensures texts { self.new.texts ≡ self.old.texts }
+    {
+        if !self.look(place) {
+            return false;
+        }
+        join(
+            reached,
+            cut(
+                &self.images,
+                place * TYPE_WORDS,
+                place * TYPE_WORDS + TYPE_WORDS,
+            ),
+        );
+        true
+    }
+
+    // Those of all record types of a set join another.
+    fn add_places(&mut self, reached: &mut [u32], records: &[u32], slot: usize) -> bool
+        requires { (length reached.old ≡ TYPE_WORDS) × (length records.now ≡ TYPE_WORDS) × (slot < SLOTS) }
+        ensures gathered { Gathered reached.old reached.new (of_slot self.old.rows.now self.old.texts records.now slot) result }
+        ensures rows { self.new.rows.now ≡ self.old.rows.now }
+    {
+        let mut y = next(records, 0);
+        while y < TYPES {
+            if !self.add_place(reached, slot * TYPES + y) {
+                return false;
+            }
+            y = next(records, y + 1);
+        }
+        true
+    }
+
+    // Those that all record types of a set reach by the text of a slot.
+    fn add_step(&mut self, reached: &mut [u32], records: &[u32], slot: usize) -> bool
+        requires { (length reached.old ≡ TYPE_WORDS) × (length records.now ≡ TYPE_WORDS) × (slot < SLOTS) }
+        ensures gathered { Gathered reached.old reached.new (of_slot self.old.rows.now self.old.texts records.now slot) result }
+        ensures rows { self.new.rows.now ≡ self.old.rows.now }
+    {
+        if are_seen(&self.seen, records, slot) {
+            join_places(&self.images, reached, records, slot);
+            return true;
+        }
+        self.add_places(reached, records, slot)
+    }
+
+    // Those that they reach by a text.
+    fn step(&mut self, reached: &mut [u32], records: &[u32], text: u32) -> bool
+        requires { (length reached.old ≡ TYPE_WORDS) × (length records.now ≡ TYPE_WORDS) }
+        ensures gathered { Gathered reached.old reached.new (of_step self.old.rows.now records.now text) result }
+        ensures rows { self.new.rows.now ≡ self.old.rows.now }
+    {
+        let slot = settle(&mut self.texts, &mut self.seen, text);
+        self.add_step(reached, records, slot)
+    }
 }
 
 // ---- a path, from a group on
@@ -284,14 +225,12 @@ fn skip(line: &[u32], texts: &[u32], start: usize) -> usize
     requires { 1 ≤ start }
     ensures { Skipped line.now texts.now start result }
 {
-    let mut i = start;
-    while i < line.len() {
+    for i in start..line.len() {
         if !has(texts, item(line, i - 1) as usize) {
             return i;
         }
-        i += 1;
     }
-    i
+    start.max(line.len())
 }
 
 // Whether the steps of a path from word `start` on, the first of them the word before it, are typed from a type. Texts whose step leaves the set
@@ -305,11 +244,15 @@ fn group_typed(rows: &[u32], line: &[u32], ty: u32, start: usize) -> bool
         return false;
     }
     let mut kept = [0u32; TEXT_WORDS];
-    let mut known = [0u32; TYPE_WORDS];
-    let mut sets = [0u32; SETS];
-    let mut texts = [0u32; SLOTS];
-    let mut seen = [0u32; SLOTS * TYPE_WORDS];
-    let mut images = [0u32; PLACES * TYPE_WORDS];
+    let mut memory = Memory {
+        rows,
+        known: [0; TYPE_WORDS],
+        sets: [0; SETS],
+        texts: [0; SLOTS],
+        seen: [0; SEEN],
+        images: [0; IMAGES],
+    };
+    // kept: steps that change nothing are skipped, so the index leaps.
     let mut i = start;
     loop {
         i = skip(line, &kept, i);
@@ -318,21 +261,11 @@ fn group_typed(rows: &[u32], line: &[u32], ty: u32, start: usize) -> bool
         }
         let text = item(line, i - 1);
         let mut reached = [0u32; TYPE_WORDS];
-        if !step(
-            rows,
-            &mut known,
-            &mut sets,
-            &mut texts,
-            &mut seen,
-            &mut images,
-            &mut reached,
-            &records,
-            text,
-        ) {
+        if !memory.step(&mut reached, &records, text) {
             break false;
         }
         i += 1;
-        if is_same(&records, &reached) {
+        if records == reached {
             add(&mut kept, text as usize);
             continue;
         }
@@ -398,6 +331,7 @@ pub fn path_typed(rows: &[u32], line: &[u32], ty: u32) -> bool
         return false;
     }
     let mut z = ty;
+    // kept: the type behind the last step is asked for its place too, which a range over the steps would have to do once more.
     let mut i: usize = 4;
     loop {
         let p = place_of(rows, z);
@@ -411,8 +345,7 @@ pub fn path_typed(rows: &[u32], line: &[u32], ty: u32) -> bool
                 if is_searched_once(rows, z, y, line.len() - i) {
                     break group_typed(rows, line, z, i);
                 }
-                let f = attribute(rows, y, item(line, i - 1));
-                let Found::As(t) = f else {
+                let Some(t) = attribute(rows, y, item(line, i - 1)) else {
                     break true;
                 };
                 z = t;

@@ -1,3 +1,4 @@
+pub mod Outs
 pub mod Printing
 pub mod Sending
 pub mod Writing

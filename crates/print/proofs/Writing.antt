@@ -11,7 +11,7 @@ use borrow.Author.Tests.{lt-ltb, le-ltb}
 use lib.Dec.{ltb}
 use lib.IntN.{pos, neg_ℤ}
 use lib.ListN.{length, get_or, take, drop, set, length-append}
-use lib.Seq.{sets, sets-eq, set_out, take-suc, take_all, length-sets}
+use lib.Seq.{sets, sets-eq, set_out, take-suc, length-sets}
 use Rattle.words.proofs.Stores.{sets_append, sets_out}
 use Rattle.sheet.specs.Call.{over}
 use Rattle.sheet.specs.Bytes.{half, long_at, digits_by, digits, signed}
@@ -66,24 +66,10 @@ module _ (was : List ℕ) (at b : ℕ) (l : length was ≤ 18446744073709551615)
   pub byte_full : length was ≤ at → 18446744073709551615 ≤ at → at ≤ 18446744073709551615 → Written was at (b ∷ []) was at
   byte_full h g k = record { held = sym (set_out was at b h); place = omega arith; countable = l }
 
--- where a copy stands: the first i bytes are written
-pub record Copying (text was : List ℕ) (at₀ : ℕ) (is : List ℕ) (at i : ℕ) : Type 0 where
-  pub near : i ≤ length text
-  pub written : Written was at₀ (take i text) is at
-
-pub copying_start : (text was : List ℕ) (at : ℕ) → at ≤ 18446744073709551615 → length was ≤ 18446744073709551615 → Copying text was at was at 0
-copying_start text was at h l = record { near = omega arith; written = written_none was at h l }
-
-module _ (text was : List ℕ) (at₀ : ℕ) (is : List ℕ) (at i : ℕ) (k : Copying text was at₀ is at i) where
-  pub copying_on : (out : List ℕ) (next : ℕ) → i < length text → Written is at (get_or text i 0 ∷ []) out next → Copying text was at₀ out next (i + 1)
-  copying_on out next h w =
-      record {
-        near = omega arith;
-        written = written_as (written_append k.written w) (rw (add-one i) (sym (take-suc text i 0 h)));
-      }
-
-  pub copying_end : length text ≤ i → Written was at₀ text is at
-  copying_end h = written_as k.written (take_all i text h)
+-- a run of bytes, one more of which is written
+pub written_next : {was is out : List ℕ} {at k next : ℕ} → (text : List ℕ) (i : ℕ) → Written was at (take i text) is k → i < length text → Written is k (get_or text i 0 ∷ []) out next
+    → Written was at (take (i + 1) text) out next
+written_next text i v h w = written_as (written_append v w) (rw (add-one i) (sym (take-suc text i 0 h)))
 
 -- ---- digits
 
@@ -136,26 +122,6 @@ signed_negative w h = signed_neg (half - w) (omega arith) ∙ ap signed (sym (lo
 
 pub signed_positive : (w : ℕ) → 9223372036854775808 ≤ w → digits (w - 9223372036854775808) ≡ signed (long_at w)
 signed_positive w h = ap signed (sym (long_positive w h))
-
--- ---- the answers of the writers of numbers
-
-pub number_one : (was is : List ℕ) (at next n : ℕ) → n < 10 → Written was at ((48 + n) ∷ []) is next → Written was at (digits n) is next
-number_one was is at next n h w = written_as w (digits_one n h)
-
-pub number_more : (was mid is : List ℕ) (at m next n : ℕ) → n < 18446744073709551616 → 10 ≤ n → Written was at (digits (n / 10)) mid m → Written mid m ((48 + n % 10) ∷ []) is next
-    → Written was at (digits n) is next
-number_more was mid is at m next n l h v w = written_as (written_append v w) (digits_more n h l)
-
-pub number_two : (was mid is : List ℕ) (at m next n : ℕ) → 10 ≤ n → n < 100 → Written was at ((48 + n / 10) ∷ []) mid m → Written mid m ((48 + n % 10) ∷ []) is next
-    → Written was at (digits n) is next
-number_two was mid is at m next n l h v w = number_more was mid is at m next n (omega arith) l (number_one was mid at m (n / 10) (omega arith) v) w
-
-pub long_less : (was mid is : List ℕ) (at m next w : ℕ) → w < 9223372036854775808 → Written was at (45 ∷ []) mid m → Written mid m (digits (9223372036854775808 - w)) is next
-    → Written was at (signed (long_at w)) is next
-long_less was mid is at m next w h u v = written_as (written_append u v) (signed_negative w h)
-
-pub long_more : (was is : List ℕ) (at next w : ℕ) → 9223372036854775808 ≤ w → Written was at (digits (w - 9223372036854775808)) is next → Written was at (signed (long_at w)) is next
-long_more was is at next w h v = written_as v (signed_positive w h)
 
 -- ---- a whole answer
 

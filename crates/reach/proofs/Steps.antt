@@ -6,6 +6,8 @@ use Prim.Native.Nat.{ℕ, zero, suc, ◌+◌, ◌-◌, ◌*◌, ◌<◌, ◌≤�
 use native.Mathlib.Omega.{arith}
 use borrow.Author.Tests.{lt-ltb, le-ltb, eq-eqb, ne_eqb, eqb-true, eqb-false, ltb-true, ltb-false}
 use lib.Dec.{ltb, eqb}
+use native.Mathlib.Numerals.{add-one}
+use Rattle.std.specs.List.{list_any, range_with_len}
 use lib.ListN.{length, get_or, take, drop, set, replicate, length-set, length-replicate, get_or-replicate, get_or-eq_default}
 use lib.Seq.{take_all, length-take-le, get_or-take, get_or-set_same}
 use Rattle.cedar.specs.Rows.{Row, rbool, rlong, rtext, rent, rset, rrec}
@@ -21,7 +23,7 @@ use Rattle.table.proofs.Rows.{count_rows, row_at_is, row_some}
 use Rattle.value.proofs.Lists.{uncons, spent}
 use Rattle.met.specs.Noting.{Entered, Skipped}
 use Rattle.met.proofs.Meeting.{not_none}
-use Rattle.reach.specs.Marks.{LINES, VALUES, NEAR, HIDDEN, FAR, line_rows, place_of, named, Filled, Indexed, Listed, Queue, Grown, Opened, Taken, Spot, Seen, Spread, Expanded, Found, marked_at, any_marked, names_at, is_met, any_met}
+use Rattle.reach.specs.Marks.{LINES, VALUES, HIDDEN, FAR, line_rows, place_of, named, Filled, Indexed, Listed, Queue, Grown, Opened, Taken, Spot, Seen, Spread, Expanded, Found, marked_at, any_marked, names_at, is_met, any_met}
 use Rattle.reach.proofs.Marking.{Marks, place_most, grown_old, grown_beside, grown_one, room_left, noted_queue, taken_on, seen_none, seen_old, seen_new, seen_more, seen_skip, opened_long, marks_open, marks_shown, marks_on, marks_end, marks_start, queue_start}
 
 -- ---- lines, line_at
@@ -172,9 +174,6 @@ pub walk_start : (a p u : List ℕ) (b n e : ℕ) → (n ≡ length (line_rows a
 walk_start a p u b n e en f eb ee = record { index = index_start a p n en.0 f; longu = refl; low = eb; end = ee; listing = record { is = λ v h k l z. let y = en.0 in absurd (omega (arith, l, z, y)) } }
 
 module _ (a p₀ u₀ p u : List ℕ) (b i e : ℕ) (c : Walking a p₀ u₀ p u b i e) (h : 0 < i) where
-  pub walk_byte : i - 1 < 256
-  walk_byte = let z = c.index.near in let y = lines_most a in omega (arith, z, y)
-
   walk_line : (s : ℕ) (r : List ℕ) → s ≡ get_or a (b + (i - 1)) 0 → r ≡ part a s e → r ≡ get_or (line_rows a) (i - 1) []
   walk_line s r es er = let z = c.index.near in let y = lines_few a in let x = lines_most a in
       line_row a (i - 1) (length (line_rows a)) (refl, x) (omega (arith, z, h)) r
@@ -278,22 +277,21 @@ meet_queue E v w m q t c w' m' b f e = noted_queue E (length w') v m m' q t c (f
 pub meet_new : (E : List (List ℕ)) (v : ℕ) (w m q : List ℕ) (t : ℕ) → Queue E m q t → Spot E w m → (w' m₁ : List ℕ) (b : Bool) → Entered FAR v w m w' m₁ b → b ≡ false → (m' q' : List ℕ) (t' : ℕ) → Grown E v m₁ q t m' q' t' → Seen E (v ∷ []) 1 w m q t w' m' q' t'
 meet_new E v w m q t c d w' m₁ b f e m' q' t' g = seen_new E v w m q t c d w' (f.new e).0 m₁ (f.new e).1 m' q' t' g
 
-pub record Seeing (a p l w₀ m₀ q₀ : List ℕ) (t : ℕ) (w m q : List ℕ) (u j : ℕ) : Type 0 where
+pub record Seeing (a l w₀ m₀ q₀ : List ℕ) (t : ℕ) (w m q : List ℕ) (u j : ℕ) : Type 0 where
   pub near : j ≤ length l
   pub longw : length w ≡ length w₀
   pub long : length m ≡ length m₀
   pub longq : length q ≡ length q₀
-  pub indexed : Indexed (line_rows a) p
   pub queue : Queue (line_rows a) m q u
   pub spot : Spot (line_rows a) w m
   pub seen : Seen (line_rows a) l j w₀ m₀ q₀ t w m q u
 
-pub seeing_start : (a p l w m q : List ℕ) (t j : ℕ) → Indexed (line_rows a) p → Queue (line_rows a) m q t → Spot (line_rows a) w m → Skipped w l 0 j → Seeing a p l w m q t w m q t j
-seeing_start a p l w m q t j c d s k = record { near = k.near; longw = refl; long = refl; longq = refl; indexed = c; queue = d; spot = s; seen = seen_skip (line_rows a) l 0 j w m q t w m q t (seen_none (line_rows a) l 0 w m q t d s (λ i h. absurd (omega arith))) k }
+pub seeing_start : (a l w m q : List ℕ) (t j : ℕ) → Queue (line_rows a) m q t → Spot (line_rows a) w m → Skipped w l 0 j → Seeing a l w m q t w m q t j
+seeing_start a l w m q t j d s k = record { near = k.near; longw = refl; long = refl; longq = refl; queue = d; spot = s; seen = seen_skip (line_rows a) l 0 j w m q t w m q t (seen_none (line_rows a) l 0 w m q t d s (λ i h. absurd (omega arith))) k }
 
-module _ (a p l w₀ m₀ q₀ : List ℕ) (t : ℕ) (w m q : List ℕ) (u j : ℕ) (c : Seeing a p l w₀ m₀ q₀ t w m q u j) where
-  pub seeing_on : j < length l → (w' m' q' : List ℕ) (u' : ℕ) → Seen (line_rows a) (get_or l j 0 ∷ []) 1 w m q u w' m' q' u' → (i : ℕ) → Skipped w' l (j + 1) i → Seeing a p l w₀ m₀ q₀ t w' m' q' u' i
-  seeing_on h w' m' q' u' g i k = record { near = k.near; longw = g.longw ∙ c.longw; long = g.long ∙ c.long; longq = g.longq ∙ c.longq; indexed = c.indexed; queue = g.queue; spot = g.spot; seen = seen_skip (line_rows a) l (j + 1) i w₀ m₀ q₀ t w' m' q' u' (seen_more (line_rows a) l j w₀ m₀ q₀ t w m q u w' m' q' u' c.seen g) k }
+module _ (a l w₀ m₀ q₀ : List ℕ) (t : ℕ) (w m q : List ℕ) (u j : ℕ) (c : Seeing a l w₀ m₀ q₀ t w m q u j) where
+  pub seeing_on : j < length l → (w' m' q' : List ℕ) (u' : ℕ) → Seen (line_rows a) (get_or l j 0 ∷ []) 1 w m q u w' m' q' u' → (i : ℕ) → Skipped w' l (j + 1) i → Seeing a l w₀ m₀ q₀ t w' m' q' u' i
+  seeing_on h w' m' q' u' g i k = record { near = k.near; longw = g.longw ∙ c.longw; long = g.long ∙ c.long; longq = g.longq ∙ c.longq; queue = g.queue; spot = g.spot; seen = seen_skip (line_rows a) l (j + 1) i w₀ m₀ q₀ t w' m' q' u' (seen_more (line_rows a) l j w₀ m₀ q₀ t w m q u w' m' q' u' c.seen g) k }
 
   pub seeing_less : j < length l → (w' : List ℕ) (i : ℕ) → Skipped w' l (j + 1) i → length l - i < length l - j
   seeing_less h w' i k = let z = k.more in omega (arith, h, z)
@@ -332,15 +330,11 @@ module _ (a : List ℕ) (x : ℕ) (s w m q : List ℕ) (t : ℕ) (c : Queue (lin
 
 -- ---- reach
 
-pub record Going (a : List ℕ) (v : ℕ) (p u w₀ m₀ s w m q : List ℕ) (t h : ℕ) : Type 0 where
+pub record Going (a : List ℕ) (v : ℕ) (w₀ m₀ s w m q : List ℕ) (t h : ℕ) : Type 0 where
   pub longw : length w ≡ length w₀
   pub long : length m ≡ length m₀
-  pub longp : length p ≡ VALUES
   pub longs : length s ≡ VALUES
-  pub longu : length u ≡ NEAR
   pub longq : length q ≡ LINES
-  pub indexed : Indexed (line_rows a) p
-  pub listed : Listed (line_rows a) u
   pub queue : Queue (line_rows a) m q t
   pub spot : Spot (line_rows a) w m
   pub spread : Spread (rows_of a VALUE) (line_rows a) s w m
@@ -363,11 +357,11 @@ module _ (a : List ℕ) (v : ℕ) where
   pub reach_queue : (m q : List ℕ) → FAR < length m → Filled 0 m → length q ≡ LINES → Queue (line_rows a) m q 0
   reach_queue m q h c e = queue_start (rows_of a VALUE) (line_rows a) v m q few h (let z = lines_most a in omega (arith, z, e)) c.is
 
-  pub going_start : (m m₂ w p u q q₂ : List ℕ) (t : ℕ) → FAR < length m → Filled 0 w × Filled 0 m → length p ≡ VALUES → length u ≡ NEAR → length q ≡ LINES → Indexed (line_rows a) p × Listed (line_rows a) u → Grown (line_rows a) v m q 0 m₂ q₂ t → Going a v p u w m₂ (replicate VALUES 0) w m₂ q₂ t 0
-  going_start m m₂ w p u q q₂ t h c np nu nq i g = let x = marks_start (rows_of a VALUE) (line_rows a) v (replicate VALUES 0) w m q m₂ q₂ t few h c.1.is (none_there (replicate VALUES 0) (filled_new VALUES 0)) (none_there w c.0) g in
-      record { longw = refl; long = refl; longp = np; longu = nu; longs = length-replicate {A = ℕ} VALUES 0; longq = g.longq ∙ nq; indexed = i.0; listed = i.1; queue = x.queue; spot = x.spot; spread = x.spread; marks = x }
+  pub going_start : (m m₂ w q q₂ : List ℕ) (t : ℕ) → FAR < length m → Filled 0 w × Filled 0 m → length q ≡ LINES → Grown (line_rows a) v m q 0 m₂ q₂ t → Going a v w m₂ (replicate VALUES 0) w m₂ q₂ t 0
+  going_start m m₂ w q q₂ t h c nq g = let x = marks_start (rows_of a VALUE) (line_rows a) v (replicate VALUES 0) w m q m₂ q₂ t few h c.1.is (none_there (replicate VALUES 0) (filled_new VALUES 0)) (none_there w c.0) g in
+      record { longw = refl; long = refl; longs = length-replicate {A = ℕ} VALUES 0; longq = g.longq ∙ nq; queue = x.queue; spot = x.spot; spread = x.spread; marks = x }
 
-  module _ (p u w₀ m₀ s w m q : List ℕ) (t h : ℕ) (c : Going a v p u w₀ m₀ s w m q t h) where
+  module _ (w₀ m₀ s w m q : List ℕ) (t h : ℕ) (c : Going a v w₀ m₀ s w m q t h) where
     pub going_place : h < t → h < LINES
     going_place l = let z = c.queue.few in let y = lines_most a in omega (arith, z, y, l)
 
@@ -381,8 +375,8 @@ module _ (a : List ℕ) (v : ℕ) where
       pub going_open : Marks (rows_of a VALUE) (line_rows a) v s w m₁ q t h
       going_open = marks_open (rows_of a VALUE) (line_rows a) v s w m q t h c.marks l (place_of y (line_rows a)) ek x ex m₁ o
 
-      pub going_on : (s' w' m' q' : List ℕ) (t' : ℕ) → Expanded (rows_of a VALUE) (line_rows a) x s w m₁ q t s' w' m' q' t' → Going a v p u w₀ m₀ s' w' m' q' t' (h + 1)
-      going_on s' w' m' q' t' g = record { longw = g.seen.longw ∙ c.longw; long = g.seen.long ∙ opened_long x m m₁ o ∙ c.long; longp = c.longp; longu = c.longu; longs = g.long ∙ c.longs; longq = g.seen.longq ∙ c.longq; indexed = c.indexed; listed = c.listed; queue = g.seen.queue; spot = g.seen.spot; spread = g.spread; marks = marks_on (rows_of a VALUE) (line_rows a) v s w m₁ q t h going_open l (place_of y (line_rows a)) ek x ex (marks_shown (rows_of a VALUE) (line_rows a) v s w m q t h c.marks l (place_of y (line_rows a)) ek x ex m₁ o) s' w' m' q' t' g }
+      pub going_on : (s' w' m' q' : List ℕ) (t' : ℕ) → Expanded (rows_of a VALUE) (line_rows a) x s w m₁ q t s' w' m' q' t' → Going a v w₀ m₀ s' w' m' q' t' (h + 1)
+      going_on s' w' m' q' t' g = record { longw = g.seen.longw ∙ c.longw; long = g.seen.long ∙ opened_long x m m₁ o ∙ c.long; longs = g.long ∙ c.longs; longq = g.seen.longq ∙ c.longq; queue = g.seen.queue; spot = g.seen.spot; spread = g.spread; marks = marks_on (rows_of a VALUE) (line_rows a) v s w m₁ q t h going_open l (place_of y (line_rows a)) ek x ex (marks_shown (rows_of a VALUE) (line_rows a) v s w m q t h c.marks l (place_of y (line_rows a)) ek x ex m₁ o) s' w' m' q' t' g }
 
     pub going_less : h < t → length (line_rows a) - (h + 1) < length (line_rows a) - h
     going_less l = let z = c.queue.few in omega (arith, z, l)
@@ -418,6 +412,15 @@ module _ (f : ℕ → Bool) (m : List ℕ) (d n : ℕ) where
     unfolding any_marked
     asked_end h = sym (c.rest ∙ ap (any_marked f m k) (let z : n - k ≡ 0 = omega (arith, h) in z))
 
+-- the same as a chain over places answers it
+any_places : (f : ℕ → Bool) (m : List ℕ) (i n : ℕ) → list_any (marked_at f m) (range_with_len i n) ≡ any_marked f m i n
+unfolding any_marked
+any_places f m i zero = refl
+any_places f m i (suc n) = ap (λ (b : Bool). marked_at f m i || b) (any_places f m (i + 1) n ∙ ap (λ (j : ℕ). any_marked f m j n) (add-one i))
+
+pub asked_is : (f : ℕ → Bool) (m : List ℕ) (n d : ℕ) (b : Bool) → n ≡ d → b ≡ list_any (marked_at f m) (range_with_len 0 n) → b ≡ any_marked f m 0 d
+asked_is f m n d b e q = q ∙ any_places f m 0 n ∙ ap (any_marked f m 0) e
+
 module _ (f : ℕ → Bool) (m : List ℕ) (k x : ℕ) (ex : x ≡ get_or m k 0) where
   pub mark_none : x ≡ 0 → false ≡ marked_at f m k
   unfolding marked_at
@@ -449,29 +452,10 @@ module _ (a w m : List ℕ) (v : ℕ) where
     pub met_far : (x ≡ 0 → ⊥) → (b : Bool) → b ≡ any_marked (names_at (rows_of a VALUE) (line_rows a) v) m 0 (length (line_rows a)) → b ≡ is_met (rows_of a VALUE) (line_rows a) w m v
     met_far e b eb = eb ∙ sym (past ∙ ap (λ (b : Bool). not b && any_marked (names_at (rows_of a VALUE) (line_rows a) v) m 0 (length (line_rows a))) (ne_eqb x 0 e))
 
-pub record Meeting (a w m l : List ℕ) (j : ℕ) : Type 0 where
-  pub near : j ≤ length l
-  pub rest : any_met (rows_of a VALUE) (line_rows a) w m l ≡ any_met (rows_of a VALUE) (line_rows a) w m (drop j l)
-
-module _ (a w m l : List ℕ) where
-  pub meeting_start : Meeting a w m l 0
-  meeting_start = record { near = omega arith; rest = refl }
-
-  module _ (j : ℕ) (c : Meeting a w m l j) where
-    module _ (h : j < length l) (b : Bool) (eb : b ≡ is_met (rows_of a VALUE) (line_rows a) w m (get_or l j 0)) where
-      meet_turn : any_met (rows_of a VALUE) (line_rows a) w m l ≡ (b || any_met (rows_of a VALUE) (line_rows a) w m (drop (j + 1) l))
-      unfolding any_met
-      meet_turn = c.rest ∙ ap (any_met (rows_of a VALUE) (line_rows a) w m) (uncons l 0 j h) ∙ ap (λ (x : Bool). x || any_met (rows_of a VALUE) (line_rows a) w m (drop (j + 1) l)) (sym eb)
-
-      pub meeting_yes : b ≡ true → true ≡ any_met (rows_of a VALUE) (line_rows a) w m l
-      meeting_yes e = sym (meet_turn ∙ ap (λ (x : Bool). x || any_met (rows_of a VALUE) (line_rows a) w m (drop (j + 1) l)) e)
-
-      pub meeting_no : b ≡ false → Meeting a w m l (j + 1)
-      meeting_no e = record { near = omega (arith, h); rest = meet_turn ∙ ap (λ (x : Bool). x || any_met (rows_of a VALUE) (line_rows a) w m (drop (j + 1) l)) e }
-
-    pub meeting_end : length l ≤ j → false ≡ any_met (rows_of a VALUE) (line_rows a) w m l
-    unfolding any_met
-    meeting_end h = sym (c.rest ∙ ap (any_met (rows_of a VALUE) (line_rows a) w m) (spent l j h))
+pub any_is : (a w m l : List ℕ) → list_any (is_met (rows_of a VALUE) (line_rows a) w m) l ≡ any_met (rows_of a VALUE) (line_rows a) w m l
+unfolding any_met
+any_is a w m [] = refl
+any_is a w m (t ∷ l) = ap (λ (b : Bool). is_met (rows_of a VALUE) (line_rows a) w m t || b) (any_is a w m l)
 
 -- ---- open_above
 

@@ -9,10 +9,10 @@ ghost use Rattle.table.specs.Layout.{rows_of};
 ghost use Rattle.reach.specs.Marks.{LINES, VALUES, HIDDEN, FAR, line_rows, place_of, named, Filled, Indexed, Listed, Queue, Opened, Grown, Spot, Seen, Spread, Expanded, Found, marked_at, any_marked, names_at, is_met, any_met};
 
 use forms::{ENTITY, MARK, SET_VALUE, VALUE};
-use met::{byte, note, put_byte, unmet};
-use table::{base_of, count, item, row, tag};
-use value::{contains, members};
-use words::{cut, put, read};
+use met::{note, unmet};
+use table::{base_of, count, item, items, row, tag};
+use value::contains;
+use words::{cut, item_or, put, read};
 
 // The most entity lines, and the most values of a sheet: so many bytes has a table by value.
 pub const LINES: usize = 128;
@@ -56,14 +56,12 @@ pub fn place_of(rows: &[u32], value: u32) -> u32
     ensures { result ≡ place_of value (line_rows rows.now) }
 {
     let n = lines(rows);
-    let mut i = 0;
-    while i < n {
+    for i in 0..n {
         if item(line_at(rows, i), 1) == value {
             return i;
         }
-        i += 1;
     }
-    i
+    n
 }
 
 // How many values there are, none past the most.
@@ -85,30 +83,52 @@ fn index(rows: &[u32], places: &mut [u8], sets: &mut [u32])
     requires { Filled (length (line_rows rows.now)) places.old }
     ensures { Indexed (line_rows rows.now) places.new × Listed (line_rows rows.now) sets.new }
 {
-    let mut i = lines(rows);
+    let n = lines(rows);
     let b = base_of(ENTITY);
-    let mut end = read(rows, b + i as usize) as usize;
-    while i > 0 {
-        i -= 1;
+    let mut end = read(rows, b + n as usize) as usize;
+    for i in (0..n).rev() {
         let start = read(rows, b + i as usize) as usize;
         let line = cut(rows, start, end);
         let v = item(line, 1) as usize;
         put(sets, v, item(line, 4));
-        put_byte(places, v, i as u8);
+        put(places, v, i as u8);
         end = start;
     }
 }
 
-// The place of the line of entity `value` by these bytes; a number past their end is looked for.
-fn place(rows: &[u32], places: &[u8], value: u32) -> u32
-    requires { Indexed (line_rows rows.now) places.now }
-    ensures { result ≡ place_of value (line_rows rows.now) }
-{
-    let i = value as usize;
-    if i < places.len() {
-        return places[i] as u32;
+// The tables by value that say where the lines of entities are, and which parents they name.
+#[derive(Drop)]
+struct Tables<'a> {
+    rows: &'a [u32],
+    places: &'a [u8],
+    sets: &'a [u32],
+    ghost indexed: { Indexed (line_rows rows.now) places.now },
+    ghost listed: { Listed (line_rows rows.now) sets.now },
+}
+
+impl<'a> Tables<'a> {
+    // The place of the line of entity `value`; a number past the table's end is looked for.
+    fn place(&self, value: u32) -> u32
+        ensures { result ≡ place_of value (line_rows self.now.rows.now) }
+    {
+        let i = value as usize;
+        if i < self.places.len() {
+            return u32::from(self.places[i]);
+        }
+        place_of(self.rows, value)
     }
-    place_of(rows, value)
+
+    // The last item of the line of entity `value`: the search does not wait for the place of the line. Past the table's end it is looked for.
+    fn set_of(&self, value: u32) -> u32
+        requires { place_of value (line_rows self.now.rows.now) < length (line_rows self.now.rows.now) }
+        ensures { result ≡ at (get_or (line_rows self.now.rows.now) (place_of value (line_rows self.now.rows.now)) []) 3 }
+    {
+        let i = value as usize;
+        if i < self.sets.len() {
+            return self.sets[i];
+        }
+        item(line_at(self.rows, self.place(value)), 4)
+    }
 }
 
 // The parents that the last item of an entity line names.
@@ -122,7 +142,7 @@ fn parents_in(rows: &[u32], parents: u32) -> &[u32]
     if tag(q) != SET_VALUE {
         return &rows[0..0];
     }
-    members(q)
+    items(q)
 }
 
 // The parents that line `number` names.
@@ -134,27 +154,22 @@ pub fn parents_of(rows: &[u32], number: u32) -> &[u32]
 
 // ---- the search
 
+// kept: marks, queue and its end, and what holds of them, side by side with the entities met: a struct of slices that are lent to be changed has to
+// promise for each call that it keeps them lent, which is longer than what they ask.
+
 // The line of entity `value` is marked; where it was not before the entity is queued. All that are not listed have one mark. Back comes where the
 // queue ends.
-fn see_at(
-    rows: &[u32],
-    places: &[u8],
-    value: u32,
-    marks: &mut [u32],
-    queue: &mut [u32],
-    end: u32,
-) -> u32
-    requires indexed { Indexed (line_rows rows.now) places.now }
-    requires queue { Queue (line_rows rows.now) marks.old queue.old end }
-    ensures { Grown (line_rows rows.now) value marks.old queue.old end marks.new queue.new result }
+fn see_at(tables: &Tables, value: u32, marks: &mut [u32], queue: &mut [u32], end: u32) -> u32
+    requires { Queue (line_rows tables.now.rows.now) marks.old queue.old end }
+    ensures { Grown (line_rows tables.now.rows.now) value marks.old queue.old end marks.new queue.new result }
 {
-    let k = place(rows, places, value);
+    let k = tables.place(value);
     let i = k as usize;
     if marks[i] != 0 {
         return end;
     }
     marks[i] = 1;
-    if k >= lines(rows) {
+    if k >= lines(tables.rows) {
         return end;
     }
     queue[end as usize] = value;
@@ -163,44 +178,40 @@ fn see_at(
 
 // Parent `value` is met; where it was not before its line is marked.
 fn meet(
-    rows: &[u32],
-    places: &[u8],
+    tables: &Tables,
     value: u32,
     met: &mut [u8],
     marks: &mut [u32],
     queue: &mut [u32],
     end: u32,
 ) -> u32
-    requires indexed { Indexed (line_rows rows.now) places.now }
-    requires queue { Queue (line_rows rows.now) marks.old queue.old end }
-    requires spot { Spot (line_rows rows.now) met.old marks.old }
-    ensures { Seen (line_rows rows.now) (value ∷ []) 1 met.old marks.old queue.old end met.new marks.new queue.new result }
+    requires queue { Queue (line_rows tables.now.rows.now) marks.old queue.old end }
+    requires spot { Spot (line_rows tables.now.rows.now) met.old marks.old }
+    ensures { Seen (line_rows tables.now.rows.now) (value ∷ []) 1 met.old marks.old queue.old end met.new marks.new queue.new result }
 {
     if note(met, marks, FAR, value) {
         return end;
     }
-    see_at(rows, places, value, marks, queue, end)
+    see_at(tables, value, marks, queue, end)
 }
 
 // The parents of a list are met.
 fn see(
-    rows: &[u32],
-    places: &[u8],
+    tables: &Tables,
     list: &[u32],
     met: &mut [u8],
     marks: &mut [u32],
     queue: &mut [u32],
     end: u32,
 ) -> u32
-    requires indexed { Indexed (line_rows rows.now) places.now }
-    requires queue { Queue (line_rows rows.now) marks.old queue.old end }
-    requires spot { Spot (line_rows rows.now) met.old marks.old }
-    ensures { Seen (line_rows rows.now) list.now (length list.now) met.old marks.old queue.old end met.new marks.new queue.new result }
+    requires queue { Queue (line_rows tables.now.rows.now) marks.old queue.old end }
+    requires spot { Spot (line_rows tables.now.rows.now) met.old marks.old }
+    ensures { Seen (line_rows tables.now.rows.now) list.now (length list.now) met.old marks.old queue.old end met.new marks.new queue.new result }
 {
     let mut e = end;
     let mut i = unmet(met, list, 0);
     while i < list.len() {
-        e = meet(rows, places, list[i], met, marks, queue, e);
+        e = meet(tables, list[i], met, marks, queue, e);
         i = unmet(met, list, i + 1);
     }
     e
@@ -218,8 +229,7 @@ fn hide(marks: &mut [u32], parents: u32)
 
 // The parents that the last item of a line names are met, once for each set of parents.
 fn expand(
-    rows: &[u32],
-    places: &[u8],
+    tables: &Tables,
     parents: u32,
     asked: &mut [u8],
     met: &mut [u8],
@@ -227,40 +237,24 @@ fn expand(
     queue: &mut [u32],
     end: u32,
 ) -> u32
-    requires indexed { Indexed (line_rows rows.now) places.now }
-    requires queue { Queue (line_rows rows.now) marks.old queue.old end }
-    requires spot { Spot (line_rows rows.now) met.old marks.old }
-    requires spread { Spread (rows_of rows.now VALUE) (line_rows rows.now) asked.old met.old marks.old }
-    ensures { Expanded (rows_of rows.now VALUE) (line_rows rows.now) parents asked.old met.old marks.old queue.old end asked.new met.new marks.new queue.new result }
+    requires queue { Queue (line_rows tables.now.rows.now) marks.old queue.old end }
+    requires spot { Spot (line_rows tables.now.rows.now) met.old marks.old }
+    requires spread { Spread (rows_of tables.now.rows.now VALUE) (line_rows tables.now.rows.now) asked.old met.old marks.old }
+    ensures { Expanded (rows_of tables.now.rows.now VALUE) (line_rows tables.now.rows.now) parents asked.old met.old marks.old queue.old end asked.new met.new marks.new queue.new result }
 {
     let i = parents as usize;
-    if byte(asked, i) != 0 {
+    if item_or(asked, i, 0) != 0 {
         return end;
     }
-    put_byte(asked, i, 1);
+    put(asked, i, 1);
     see(
-        rows,
-        places,
-        parents_in(rows, parents),
+        tables,
+        parents_in(tables.rows, parents),
         met,
         marks,
         queue,
         end,
     )
-}
-
-// The last item of the line of entity `value`, by these words: the search does not wait for the place of the line. Past their end it is looked for.
-fn set_of(rows: &[u32], places: &[u8], sets: &[u32], value: u32) -> u32
-    requires indexed { Indexed (line_rows rows.now) places.now }
-    requires listed { Listed (line_rows rows.now) sets.now }
-    requires rows_in_bounds { place_of value (line_rows rows.now) < length (line_rows rows.now) }
-    ensures { result ≡ at (get_or (line_rows rows.now) (place_of value (line_rows rows.now)) []) 3 }
-{
-    let i = value as usize;
-    if i < sets.len() {
-        return sets[i];
-    }
-    item(line_at(rows, place(rows, places, value)), 4)
 }
 
 // Marks the lines that entity `value` reaches, its own among them, and notes the ancestors met. Before, nothing is marked or noted.
@@ -273,17 +267,22 @@ pub fn reach(rows: &[u32], value: u32, met: &mut [u8], marks: &mut [u32])
     let mut places: [u8; VALUES] = [n; VALUES];
     let mut sets: [u32; NEAR] = [0; NEAR];
     index(rows, &mut places[..], &mut sets[..]);
+    let tables = Tables {
+        rows,
+        places: &places[..],
+        sets: &sets[..],
+    };
     let mut asked: [u8; VALUES] = [0; VALUES];
     let mut queue: [u32; LINES] = [0; LINES];
-    let mut end = see_at(rows, &places[..], value, marks, &mut queue[..], 0);
+    let mut end = see_at(&tables, value, marks, &mut queue[..], 0);
+    // kept: the queue grows while it is walked, so no range and no slice has its end.
     let mut i = 0;
     while i < end {
         let v = queue[i as usize];
-        let parents = set_of(rows, &places[..], &sets[..], v);
+        let parents = tables.set_of(v);
         hide(marks, parents);
         end = expand(
-            rows,
-            &places[..],
+            &tables,
             parents,
             &mut asked[..],
             met,
@@ -311,15 +310,7 @@ fn names_at(rows: &[u32], marks: &[u32], number: u32, value: u32) -> bool
 fn names(rows: &[u32], marks: &[u32], value: u32) -> bool
     ensures { result ≡ any_marked (names_at (rows_of rows.now VALUE) (line_rows rows.now) value) marks.now 0 (length (line_rows rows.now)) }
 {
-    let n = lines(rows);
-    let mut i = 0;
-    while i < n {
-        if names_at(rows, marks, i, value) {
-            return true;
-        }
-        i += 1;
-    }
-    false
+    (0..lines(rows)).any(|i| names_at(rows, marks, i, value))
 }
 
 // Whether parent `value` was met; a number past the table is looked for on the marked lines, if there was such a one.
@@ -340,14 +331,9 @@ fn is_met(rows: &[u32], met: &[u8], marks: &[u32], value: u32) -> bool
 pub fn meets_above(rows: &[u32], targets: &[u32], met: &[u8], marks: &[u32]) -> bool
     ensures { result ≡ any_met (rows_of rows.now VALUE) (line_rows rows.now) met.now marks.now targets.now }
 {
-    let mut i = 0;
-    while i < targets.len() {
-        if is_met(rows, met, marks, targets[i]) {
-            return true;
-        }
-        i += 1;
-    }
-    false
+    targets
+        .iter()
+        .any(|&target| is_met(rows, met, marks, target))
 }
 
 // Whether one that is not listed was met, or the parents on a marked line are unknown.

@@ -5,7 +5,7 @@ use mathlib.Core.List.{List, [], ◌∷◌}
 use Prim.Native.Nat.{ℕ, ◌+◌, ◌≤◌, ◌<◌}
 use native.Mathlib.Numerals.{add-one}
 use native.Mathlib.Omega.{arith}
-use borrow.Author.Tests.{eq-eqb, ne_eqb}
+use borrow.Author.Tests.{eq-eqb}
 use lib.Dec.{eqb}
 use lib.ListN.{length, get_or, drop, drop_of_length-le}
 use lib.Seq.{drop-cons}
@@ -31,9 +31,6 @@ module _ (a : List ℕ) (k n i : ℕ) (hn : n ≡ get_or a k 0) where
 
 -- ---- a text's row
 
-pub text_not : (sheet q text : List ℕ) (t : ℕ) → t ≡ tag q → (t ≡ TEXT_LINE → ⊥) → false ≡ same (TEXT_LINE ∷ text) (text_row sheet q)
-text_not sheet q text t e n = sym (rw (← e, ne_eqb TEXT_LINE t (λ z. n (sym z))) refl)
-
 pub text_same : (sheet q text : List ℕ) (t s n : ℕ) (b : Bool) (x : List ℕ) → t ≡ tag q → t ≡ TEXT_LINE → s ≡ get_or q 1 0 → n ≡ get_or q 2 0 → x ≡ part sheet s (s + n) → b ≡ same text x
     → b ≡ same (TEXT_LINE ∷ text) (text_row sheet q)
 text_same sheet q text t s n b x e o hs hn hx hb = hb ∙ sym (rw (← e, eq-eqb TEXT_LINE t (sym o), ← hs, ← hn, ← hx) refl)
@@ -43,9 +40,6 @@ text_same sheet q text t s n b x e o hs hn hx hb = hb ∙ sym (rw (← e, eq-eqb
 pub record Named (x : ℕ) (a : List ℕ) (k i : ℕ) : Type 0 where
   pub left : mem_n x (firsts (rows_of a k)) ≡ mem_n x (firsts (drop i (rows_of a k)))
 
-pub named_start : (x : ℕ) (a : List ℕ) (k : ℕ) → Named x a k 0
-named_start x a k = record { left = refl }
-
 module _ (x : ℕ) (a : List ℕ) (k n i : ℕ) (s : Named x a k i) (hn : n ≡ get_or a k 0) where
   module _ (q : List ℕ) (y : ℕ) (h : i < n) (hq : q ≡ get_or (rows_of a k) i []) (hy : y ≡ get_or q 1 0) where
     named_at : mem_n x (firsts (rows_of a k)) ≡ (eqb x y || mem_n x (firsts (drop (i + 1) (rows_of a k))))
@@ -53,9 +47,6 @@ module _ (x : ℕ) (a : List ℕ) (k n i : ℕ) (s : Named x a k i) (hn : n ≡ 
 
     pub named_found : x ≡ y → true ≡ mem_n x (firsts (rows_of a k))
     named_found e = sym (named_at ∙ rw (eq-eqb x y e) refl)
-
-    pub named_on : (x ≡ y → ⊥) → Named x a k (i + 1)
-    named_on e = record { left = named_at ∙ rw (ne_eqb x y e) refl }
 
   pub named_end : n ≤ i → false ≡ mem_n x (firsts (rows_of a k))
   named_end h = sym (s.left ∙ ap (λ (l : List (List ℕ)). mem_n x (firsts l)) (rows_end a k n i hn h))

@@ -8,7 +8,7 @@ use native.Mathlib.Omega.{arith}
 use native.Mathlib.Decide.{ℕ_discrete, dec_lt}
 use borrow.Author.Tests.{eq-eqb, ne_eqb}
 use lib.ListN.{length, get_or, drop, length-take, length-drop, get_or-eq_default}
-use lib.Seq.{drop-cons, get_or-drop, take_all}
+use lib.Seq.{drop-cons, get_or-drop}
 use Rattle.words.proofs.Stores.{part_at}
 use Rattle.sheet.specs.Bytes.{same}
 use Rattle.sheet.specs.Forms.{form_of, forms, tag, at, key_of, no_key}
@@ -57,9 +57,6 @@ module _ (p : List ℕ → Bool) (a : List ℕ) (k n b i : ℕ) (starts : List �
   pub start_at_law : i < length starts → get_or starts i 0 ≡ get_or a (b + i) 0
   start_at_law h = ap (λ (l : List ℕ). get_or l i 0) hs ∙ part_at a b (b + n) i (omega (arith, starts_long.0))
 
-  pub start_low : i < length starts → n < 4294967296 → b + i < 8589934592
-  start_low h l = omega (arith, starts_long.0)
-
   module _ (v : Bool) (h : i < length starts) (hv : v ≡ p (row_at a (b + i))) where
     scan_at : any_of p (rows_of a k) ≡ (v || any_of p (drop (i + 1) (rows_of a k)))
     unfolding any_of
@@ -102,12 +99,6 @@ ends_some n l h = rw (ne_eqb n 0 (λ q. absurd (omega arith))) refl
 
 pub ends_none : (n : ℕ) (l : List ℕ) → n ≡ 0 → [] ≡ ends_of n l
 ends_none n l h = sym (rw (eq-eqb n 0 h) refl)
-
-pub end_none : (l : List ℕ) → length l ≡ 0 → 0 ≡ get_or l (length l - 1) 0
-end_none l h = sym (get_or-eq_default l 0 {n = length l - 1} (omega arith))
-
-pub ends_part : (n : ℕ) (l q : List ℕ) → 1 ≤ n → q ≡ part l (n - 1) (length l) → q ≡ ends_of n l
-ends_part n l q h e = e ∙ take_all (length l - (n - 1)) (drop (n - 1) l) (omega (arith, length-drop (n - 1) l)) ∙ sym (ends_some n l h)
 
 part_long : (l : List ℕ) (s e : ℕ) → length (part l s e) ≤ e - s
 part_long l s e = omega (arith, length-take (e - s) (drop s l))

@@ -11,7 +11,6 @@ ghost use Rattle.forms.specs.Tags.{TEXT_LINE};
 ghost use Rattle.repeats.specs.Ends.{RowEnds, ends_of, TextEnds};
 
 use forms::{TEXT, TEXT_LINE};
-use scan::{same_bytes, same_words};
 use table::{base_of, bytes, count, item, row, tag};
 use words::{cut, read};
 
@@ -27,7 +26,7 @@ fn is_row_at(rows: &[u32], ends: &[u32], x: u32, i: usize, start: usize, line: &
         }
     }
     let e = read(rows, i + 1) as usize;
-    same_words(line, cut(rows, start, e))
+    line == cut(rows, start, e)
 }
 
 // Whether a row is among those of a key.
@@ -41,13 +40,10 @@ pub fn is_row(rows: &[u32], key: usize, line: &[u32]) -> bool
     let last = line.len() - 1;
     let x = line[last];
     let ends = cut(rows, last, rows.len());
-    let mut i = 0;
-    while i < starts.len() {
-        let s = starts[i] as usize;
-        if is_row_at(rows, ends, x, b + i, s, line) {
+    for (i, &start) in starts.iter().enumerate() {
+        if is_row_at(rows, ends, x, b + i, start as usize, line) {
             return true;
         }
-        i += 1;
     }
     false
 }
@@ -62,7 +58,7 @@ fn is_text_row(sheet: &[u8], line: &[u32], text: &[u8]) -> bool
     }
     let s = item(line, 1) as usize;
     let n = item(line, 2) as usize;
-    same_bytes(text, bytes(sheet, s, s + n))
+    text == bytes(sheet, s, s + n)
 }
 
 // The last byte of a text; 0 where it has none.
@@ -117,13 +113,10 @@ pub fn is_text(sheet: &[u8], rows: &[u32], text: &[u8]) -> bool
     let starts = cut(rows, b, b + n);
     let ends = ends_of(sheet, text.len());
     let x = end_of(text);
-    let mut i = 0;
-    while i < starts.len() {
-        let s = starts[i] as usize;
-        if is_text_at(sheet, rows, ends, x, b + i, s, text) {
+    for (i, &start) in starts.iter().enumerate() {
+        if is_text_at(sheet, rows, ends, x, b + i, start as usize, text) {
             return true;
         }
-        i += 1;
     }
     false
 }
@@ -133,12 +126,10 @@ pub fn is_first(rows: &[u32], key: usize, x: u32) -> bool
     ensures { result ≡ mem_n x (firsts (rows_of rows.now key)) }
 {
     let n = count(rows, key);
-    let mut i = 0;
-    while i < n {
+    for i in 0..n {
         if x == item(row(rows, key, i), 1) {
             return true;
         }
-        i += 1;
     }
     false
 }

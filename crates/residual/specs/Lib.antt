@@ -2,3 +2,4 @@ pub mod Rows
 pub mod Errs
 pub mod Trees
 pub mod Classes
+pub mod Logs

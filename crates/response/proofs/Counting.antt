@@ -1,11 +1,11 @@
 -- Policies counted one after the other, and the decision by its tests. Assumes nothing.
-use mathlib.Core.Path.{◌≡◌, refl, sym, ap, ap₂, ◌∙◌}
-use mathlib.Core.Bool.{Bool, true, false, ◌&&◌, ◌||◌}
+use mathlib.Core.Path.{◌≡◌, refl, sym, ap, ap₂, subst, ◌∙◌}
+use mathlib.Core.Bool.{Bool, true, false, not, ◌&&◌, ◌||◌}
 use mathlib.Core.List.{List, [], ◌∷◌}
 use Prim.Native.Nat.{ℕ, zero, suc, ◌+◌, ◌≤◌, ◌<◌}
 use native.Mathlib.Numerals.{add-one}
 use native.Mathlib.Omega.{arith}
-use borrow.Author.Tests.{eq-eqb, ne_eqb, lt-ltb}
+use borrow.Author.Tests.{lt-ltb}
 use lib.Dec.{eqb, ltb}
 use lib.ListN.{length, get_or, drop}
 use Rattle.cedar.specs.Canonical.{bit}
@@ -17,41 +17,55 @@ use Rattle.table.specs.Layout.{RUN, rows_of}
 use Rattle.table.proofs.Rows.{count_rows}
 use Rattle.value.proofs.Lists.{uncons, spent}
 use Rattle.residual.specs.Classes.{class_number, CLASS_TRUE, CLASS_FALSE, CLASS_ERROR, CLASS_OPEN}
-use Rattle.response.specs.Verdicts.{class_in, effect_in, effect_number, effect_is, class_is, verdicts_of, verdicts_in, decision_of}
+use Rattle.response.specs.Verdicts.{class_in, effect_in, effect_number, effect_said, effect_is, class_is, verdicts_of, verdicts_in, decision_of}
 use Rattle.response.specs.declared.Decision as D
+use Rattle.response.specs.declared.Effect as E
+use Rattle.response.specs.contracts.Effect.{the_type as effect_type}
+use Rattle.tpe.specs.declared.Class as T
+use Rattle.tpe.specs.contracts.Class.{the_type as class_type}
+use Rattle.tpe.specs.Classes as Called
+use denote.Enum.Bare.{sameb}
+use Rattle.response.specs.declared.Counts.{Counts}
 
 -- ---- one policy
 
 module _ (a : List ℕ) (i x : ℕ) (r : List ℕ) (er : r ≡ get_or (rows_of a RUN) i []) (ex : x ≡ get_or r 2 0) where
-  pub effect_forbid : x ≡ FORBID → FORBID ≡ effect_number (effect_in (get_or (rows_of a RUN) i []))
+  pub effect_forbid : x ≡ FORBID → forbid ≡ effect_in (get_or (rows_of a RUN) i [])
   effect_forbid h = let z : get_or (get_or (rows_of a RUN) i []) 2 0 ≡ FORBID = ap (λ (q : List ℕ). get_or q 2 0) (sym er) ∙ sym ex ∙ h in rw z
 
-  pub effect_permit : (x ≡ FORBID → ⊥) → PERMIT ≡ effect_number (effect_in (get_or (rows_of a RUN) i []))
+  pub effect_permit : (x ≡ FORBID → ⊥) → permit ≡ effect_in (get_or (rows_of a RUN) i [])
   effect_permit h = go (get_or (get_or (rows_of a RUN) i []) 2 0) (λ z. h (ex ∙ ap (λ (q : List ℕ). get_or q 2 0) er ∙ z))
     where
-      go : (y : ℕ) → (y ≡ FORBID → ⊥) → PERMIT ≡ effect_number (get_or (permit ∷ forbid ∷ []) y permit)
+      go : (y : ℕ) → (y ≡ FORBID → ⊥) → permit ≡ get_or (permit ∷ forbid ∷ []) y permit
       go zero n = refl
       go (suc zero) n = absurd (n refl)
       go (suc (suc y)) n = refl
 
-pub class_settled : (c x : ℕ) → c ≡ x → c < CLASS_OPEN → c ≡ class_number (class_in x)
-class_settled c x e h = e ∙ go x (omega arith)
-  where
-    go : (y : ℕ) → y < CLASS_OPEN → y ≡ class_number (class_in y)
-    go zero n = refl
-    go (suc zero) n = refl
-    go (suc (suc zero)) n = refl
-    go (suc (suc (suc y))) n = absurd (omega arith)
+-- effects and classes that are the same for the code
+pub effects_same : (x y : E.Effect) → sameb effect_type x y ≡ eqb (effect_number (effect_said x)) (effect_number (effect_said y))
+effects_same E.TheVariants.Permit E.TheVariants.Permit = refl
+effects_same E.TheVariants.Permit E.TheVariants.Forbid = refl
+effects_same E.TheVariants.Forbid E.TheVariants.Permit = refl
+effects_same E.TheVariants.Forbid E.TheVariants.Forbid = refl
 
-pub class_open : (c x : ℕ) → c ≡ x → CLASS_OPEN ≤ c → CLASS_OPEN ≡ class_number (class_in x)
-class_open c x e h = go x (omega arith)
+pub same_effects : (x y : E.Effect) (b : Bool) → b ≡ sameb effect_type x y → eqb (effect_number (effect_said x)) (effect_number (effect_said y)) ≡ b
+same_effects x y b e = sym (effects_same x y) ∙ sym e
+
+pub other_effects : (x y : E.Effect) (b : Bool) → b ≡ not (sameb effect_type x y) → eqb (effect_number (effect_said x)) (effect_number (effect_said y)) ≡ not b
+other_effects x y b e = sym (effects_same x y) ∙ go (sameb effect_type x y) ∙ ap not (sym e)
   where
-    go : (y : ℕ) → CLASS_OPEN ≤ y → CLASS_OPEN ≡ class_number (class_in y)
-    go zero n = absurd (omega arith)
-    go (suc zero) n = absurd (omega arith)
-    go (suc (suc zero)) n = absurd (omega arith)
-    go (suc (suc (suc zero))) n = refl
-    go (suc (suc (suc (suc y)))) n = refl
+    go : (c : Bool) → c ≡ not (not c)
+    go true = refl
+    go false = refl
+
+pub same_true : (x : T.Class) (b : Bool) → b ≡ sameb class_type x T.TheVariants.True → is_true (Called.class_in x) ≡ b
+same_true x b e = go x ∙ sym e
+  where
+    go : (x : T.Class) → is_true (Called.class_in x) ≡ sameb class_type x T.TheVariants.True
+    go T.TheVariants.True = refl
+    go T.TheVariants.False = refl
+    go T.TheVariants.Error = refl
+    go T.TheVariants.Open = refl
 
 -- a class is found again by its number
 pub class_back : (c : Class) → class_in (class_number c) ≡ c
@@ -59,16 +73,6 @@ class_back ctrue = refl
 class_back cfalse = refl
 class_back cerror = refl
 class_back copen = refl
-
-module _ (e c effect class : ℕ) where
-  pub hit_effect : (e ≡ effect → ⊥) → 0 ≡ bit (eqb e effect && eqb c class)
-  hit_effect h = rw (ne_eqb e effect h)
-
-  pub hit_class : e ≡ effect → (c ≡ class → ⊥) → 0 ≡ bit (eqb e effect && eqb c class)
-  hit_class g h = rw (eq-eqb e effect g, ne_eqb c class h)
-
-  pub hit_both : e ≡ effect → c ≡ class → 1 ≡ bit (eqb e effect && eqb c class)
-  hit_both g h = rw (eq-eqb e effect g, eq-eqb c class h)
 
 -- ---- the policies from one on
 
@@ -108,12 +112,9 @@ pub record Tally (whole m rest i n : ℕ) : Type 0 where
 abbrev pub count_in : ℕ → ℕ → List Verdict → ℕ
 count_in e c ls = how_many (effect_is e) (class_is c) ls
 
-hit_small : (k : ℕ) (b : Bool) → k ≡ bit b → k ≤ 1
-hit_small k true e = omega arith
-hit_small k false e = omega arith
-
-pub hit_le : (k e c effect class : ℕ) → k ≡ bit (eqb e effect && eqb c class) → k ≤ 1
-hit_le k e c effect class h = hit_small k (eqb e effect && eqb c class) h
+hit_small : (b : Bool) → bit b ≤ 1
+hit_small true = omega arith
+hit_small false = omega arith
 
 module _ (a cs : List ℕ) (effect class n : ℕ) (en : n ≡ get_or a RUN 0) where
   many : n ≡ length (rows_of a RUN)
@@ -124,12 +125,12 @@ module _ (a cs : List ℕ) (effect class n : ℕ) (en : n ≡ get_or a RUN 0) wh
   tally_start = record { near = omega arith; few = omega arith; left = omega arith }
 
   module _ (i m : ℕ) (t : Tally (count_in effect class (verdicts_in a cs)) m (count_in effect class (verdicts_from a cs i)) i n) where
-    pub tally_on : (e c k : ℕ) → i < n → e ≡ effect_number (effect_in (get_or (rows_of a RUN) i [])) → c ≡ class_number (class_in (get_or cs i 0))
-        → k ≡ bit (eqb e effect && eqb c class) → Tally (count_in effect class (verdicts_in a cs)) (m + k) (count_in effect class (verdicts_from a cs (i + 1))) (i + 1) n
-    tally_on e c k h ee ec ek =
-        let s : count_in effect class (verdicts_from a cs i) ≡ k + count_in effect class (verdicts_from a cs (i + 1)) =
-        ap (count_in effect class) (verdicts_on a cs i (omega (arith, many))) ∙ rw (ek, ee, ec) in
-        let b : k ≤ 1 = hit_small k (eqb e effect && eqb c class) ek in
+    -- policy i is called so, or it is not
+    pub tally_on : (b : Bool) → (eqb (effect_number (effect_in (get_or (rows_of a RUN) i []))) effect && eqb (class_number (class_in (get_or cs i 0))) class) ≡ b → i < n
+        → Tally (count_in effect class (verdicts_in a cs)) (m + bit b) (count_in effect class (verdicts_from a cs (i + 1))) (i + 1) n
+    tally_on b e h =
+        let s : count_in effect class (verdicts_from a cs i) ≡ bit b + count_in effect class (verdicts_from a cs (i + 1)) = ap (count_in effect class) (verdicts_on a cs i (omega (arith, many))) ∙ rw e in
+        let k : bit b ≤ 1 = hit_small b in
         record { near = omega arith; few = omega (arith, t.few); left = omega (arith, t.left) }
 
     pub tally_end : n ≤ i → m ≡ count_in effect class (verdicts_in a cs)
@@ -138,16 +139,54 @@ module _ (a cs : List ℕ) (effect class n : ℕ) (en : n ≡ get_or a RUN 0) wh
         omega (arith, t.left)
 
 -- the four counts of an effect, each so
-pub record Tallies (a cs : List ℕ) (effect n i t f e o : ℕ) : Type 0 where
-  pub trues : Tally (count_in effect CLASS_TRUE (verdicts_in a cs)) t (count_in effect CLASS_TRUE (verdicts_from a cs i)) i n
-  pub falses : Tally (count_in effect CLASS_FALSE (verdicts_in a cs)) f (count_in effect CLASS_FALSE (verdicts_from a cs i)) i n
-  pub errors : Tally (count_in effect CLASS_ERROR (verdicts_in a cs)) e (count_in effect CLASS_ERROR (verdicts_from a cs i)) i n
-  pub opens : Tally (count_in effect CLASS_OPEN (verdicts_in a cs)) o (count_in effect CLASS_OPEN (verdicts_from a cs i)) i n
+pub record Tallies (a cs : List ℕ) (effect n i : ℕ) (k : Counts) : Type 0 where
+  pub trues : Tally (count_in effect CLASS_TRUE (verdicts_in a cs)) k.trues (count_in effect CLASS_TRUE (verdicts_from a cs i)) i n
+  pub falses : Tally (count_in effect CLASS_FALSE (verdicts_in a cs)) k.falses (count_in effect CLASS_FALSE (verdicts_from a cs i)) i n
+  pub errors : Tally (count_in effect CLASS_ERROR (verdicts_in a cs)) k.errors (count_in effect CLASS_ERROR (verdicts_from a cs i)) i n
+  pub opens : Tally (count_in effect CLASS_OPEN (verdicts_in a cs)) k.opens (count_in effect CLASS_OPEN (verdicts_from a cs i)) i n
 
-pub tallies_end : (a cs : List ℕ) (effect n i t f e o : ℕ) → n ≡ get_or a RUN 0 → Tallies a cs effect n i t f e o → n ≤ i
-    → (t ≡ count_in effect CLASS_TRUE (verdicts_in a cs)) × ((f ≡ count_in effect CLASS_FALSE (verdicts_in a cs)) × ((e ≡ count_in effect CLASS_ERROR (verdicts_in a cs)) × (o ≡ count_in effect CLASS_OPEN (verdicts_in a cs))))
-tallies_end a cs effect n i t f e o en l h =
-    (tally_end a cs effect CLASS_TRUE n en i t l.trues h, (tally_end a cs effect CLASS_FALSE n en i f l.falses h, (tally_end a cs effect CLASS_ERROR n en i e l.errors h, tally_end a cs effect CLASS_OPEN n en i o l.opens h)))
+module _ (a cs : List ℕ) (effect n : ℕ) (en : n ≡ get_or a RUN 0) where
+  pub tallies_start : (k : Counts) → k.trues ≡ 0 → k.falses ≡ 0 → k.errors ≡ 0 → k.opens ≡ 0 → Tallies a cs effect n 0 k
+  tallies_start k p q r s = record { trues = none CLASS_TRUE k.trues p; falses = none CLASS_FALSE k.falses q; errors = none CLASS_ERROR k.errors r; opens = none CLASS_OPEN k.opens s }
+    where
+      none : (class m : ℕ) → m ≡ 0 → Tally (count_in effect class (verdicts_in a cs)) m (count_in effect class (verdicts_from a cs 0)) 0 n
+      none class m e = subst (λ (x : ℕ). Tally (count_in effect class (verdicts_in a cs)) x (count_in effect class (verdicts_from a cs 0)) 0 n) (sym e) (tally_start a cs effect class n en)
+
+  module _ (i : ℕ) (k : Counts) (t : Tallies a cs effect n i k) (h : i < n) (e : Effect) (ee : e ≡ effect_in (get_or (rows_of a RUN) i [])) where
+    -- a policy of another effect
+    pub tallies_over : eqb (effect_number e) effect ≡ false → Tallies a cs effect n (i + 1) k
+    tallies_over f = record {
+      trues = same CLASS_TRUE k.trues t.trues;
+      falses = same CLASS_FALSE k.falses t.falses;
+      errors = same CLASS_ERROR k.errors t.errors;
+      opens = same CLASS_OPEN k.opens t.opens;
+    }
+      where
+        same : (class m : ℕ) → Tally (count_in effect class (verdicts_in a cs)) m (count_in effect class (verdicts_from a cs i)) i n → Tally (count_in effect class (verdicts_in a cs)) m (count_in effect class (verdicts_from a cs (i + 1))) (i + 1) n
+        same class m s =
+            let z : m + 0 ≡ m = omega arith in
+            subst (λ (x : ℕ). Tally (count_in effect class (verdicts_in a cs)) x (count_in effect class (verdicts_from a cs (i + 1))) (i + 1) n) z (tally_on a cs effect class n en i m s false (rw (← ee, f)) h)
+
+    -- a policy of this effect, of class c
+    module _ (g : eqb (effect_number e) effect ≡ true) (c : Class) (ec : c ≡ class_in (get_or cs i 0)) where
+      counted : (class m m' : ℕ) → Tally (count_in effect class (verdicts_in a cs)) m (count_in effect class (verdicts_from a cs i)) i n → m' ≡ m + bit (class_is class c)
+          → Tally (count_in effect class (verdicts_in a cs)) m' (count_in effect class (verdicts_from a cs (i + 1))) (i + 1) n
+      counted class m m' s z =
+          subst (λ (x : ℕ). Tally (count_in effect class (verdicts_in a cs)) x (count_in effect class (verdicts_from a cs (i + 1))) (i + 1) n) (sym z) (tally_on a cs effect class n en i m s (class_is class c) (rw (← ee, ← ec, g)) h)
+
+      pub tallies_on : (k' : Counts) → k'.trues ≡ k.trues + bit (class_is CLASS_TRUE c) → k'.falses ≡ k.falses + bit (class_is CLASS_FALSE c) → k'.errors ≡ k.errors + bit (class_is CLASS_ERROR c) → k'.opens ≡ k.opens + bit (class_is CLASS_OPEN c)
+          → Tallies a cs effect n (i + 1) k'
+      tallies_on k' p q r s = record {
+        trues = counted CLASS_TRUE k.trues k'.trues t.trues p;
+        falses = counted CLASS_FALSE k.falses k'.falses t.falses q;
+        errors = counted CLASS_ERROR k.errors k'.errors t.errors r;
+        opens = counted CLASS_OPEN k.opens k'.opens t.opens s;
+      }
+
+  pub tallies_end : (i : ℕ) (k : Counts) → Tallies a cs effect n i k → n ≤ i
+      → (k.trues ≡ count_in effect CLASS_TRUE (verdicts_in a cs)) × (k.falses ≡ count_in effect CLASS_FALSE (verdicts_in a cs)) × (k.errors ≡ count_in effect CLASS_ERROR (verdicts_in a cs)) × (k.opens ≡ count_in effect CLASS_OPEN (verdicts_in a cs))
+  tallies_end i k t h =
+      (tally_end a cs effect CLASS_TRUE n en i k.trues t.trues h, tally_end a cs effect CLASS_FALSE n en i k.falses t.falses h, tally_end a cs effect CLASS_ERROR n en i k.errors t.errors h, tally_end a cs effect CLASS_OPEN n en i k.opens t.opens h)
 
 -- ---- whether there is one
 
@@ -224,13 +263,6 @@ counts_are ls =
     )
 
 -- ---- the decision
-
-pub decide_open : (tf tp op of : Bool) → tf ≡ false → tp ≡ false → op ≡ true → decision_of D.TheVariants.Open ≡ decide tf tp op of
-decide_open tf tp op of h k l = rw (h, k, l) (go of)
-  where
-    go : (b : Bool) → decision_of D.TheVariants.Open ≡ decide false false true b
-    go true = refl
-    go false = refl
 
 pub decision_is : (ls : List Verdict) (tf tp op of : Bool) (d : D.Decision) → tf ≡ any_line (effect_is FORBID) (class_is CLASS_TRUE) ls → tp ≡ any_line (effect_is PERMIT) (class_is CLASS_TRUE) ls
     → op ≡ any_line (effect_is PERMIT) (class_is CLASS_OPEN) ls → of ≡ any_line (effect_is FORBID) (class_is CLASS_OPEN) ls → decision_of d ≡ decide tf tp op of → decision_of d ≡ decision ls

@@ -13,8 +13,9 @@ use Rattle.sheet.specs.Why.{Name}
 use Rattle.table.specs.Layout.{RUN, rows_of}
 use Rattle.table.proofs.Rows.{count_rows}
 use Rattle.value.proofs.Lists.{uncons, spent}
-use Rattle.print.specs.Written.{Written}
-use Rattle.print.proofs.Writing.{written_append, written_as}
+use Rattle.print.specs.declared.Out.{Out}
+use Rattle.print.specs.Out.{Prints}
+use Rattle.print.proofs.Outs.{prints_as, prints_two}
 use Rattle.listing.specs.Values.{made_lines}
 use Rattle.listing.specs.Nodes.{log_lines}
 use Rattle.listing.proofs.Printing.{Printing, printing_on, printing_end}
@@ -49,27 +50,25 @@ rooted_step a cs es i h =
     ++ concat (rooted_of (drop (i + 1) (rows_of a RUN)) p q)) (next cs i) (next es i)
     ∙ ap (λ (m : List ℕ). m ++ rooted_from a cs es (i + 1)) (rooted_text (get_or (rows_of a RUN) i []) (get_or cs i 0) (get_or es i 0))
 
-pub rooted_line_law : (was w₁ w₂ is : List ℕ) (at k₁ k₂ then : ℕ) (a cs : List ℕ) (i x : ℕ) → Written was at (policy_at a cs i) w₁ k₁ → Written w₁ k₁ (44 ∷ digits x) w₂ k₂
-    → Written w₂ k₂ (10 ∷ []) is then → Written was at (policy_at a cs i ++ ((44 ∷ digits x) ++ (10 ∷ []))) is then
-rooted_line_law was w₁ w₂ is at k₁ k₂ then a cs i x u v w = written_append u (written_append v w)
+pub rooted_line_law : {b c d e : Out} (a cs : List ℕ) (i x : ℕ) → Prints b (policy_at a cs i) c → Prints c (44 ∷ digits x) d → Prints d (10 ∷ []) e → Prints b (policy_at a cs i ++ ((44 ∷ digits x) ++ (10 ∷ []))) e
+rooted_line_law a cs i x u v w = prints_two u (prints_two v w)
 
 module _ (a cs es : List ℕ) (n : ℕ) (en : n ≡ get_or a RUN 0) where
   many : n ≡ length (rows_of a RUN)
   many = en ∙ sym (count_rows a RUN)
 
-  module _ (i : ℕ) (was is : List ℕ) (at then : ℕ) (p : Printing (concat (rooted_lines a cs es)) (rooted_from a cs es i) was at is then) where
-    pub rooted_on : (x : ℕ) (out : List ℕ) (last : ℕ) → i < n → x ≡ get_or es i 0 → Written is then (policy_at a cs i ++ ((44 ∷ digits x) ++ (10 ∷ []))) out last
-        → Printing (concat (rooted_lines a cs es)) (rooted_from a cs es (i + 1)) was at out last
-    rooted_on x out last h e w =
-        printing_on p (policy_at a cs i ++ ((44 ∷ digits (get_or es i 0)) ++ (10 ∷ []))) (rooted_from a cs es (i + 1)) out last (rooted_step a cs es i (omega (arith, many)))
-        (written_as w (ap (λ (y : ℕ). policy_at a cs i ++ ((44 ∷ digits y) ++ (10 ∷ []))) e))
+  module _ (i : ℕ) {a₀ b : Out} (p : Printing (concat (rooted_lines a cs es)) (rooted_from a cs es i) a₀ b) where
+    pub rooted_on : {c : Out} (x : ℕ) → i < n → x ≡ get_or es i 0 → Prints b (policy_at a cs i ++ ((44 ∷ digits x) ++ (10 ∷ []))) c → Printing (concat (rooted_lines a cs es)) (rooted_from a cs es (i + 1)) a₀ c
+    rooted_on x h e w =
+        printing_on p (policy_at a cs i ++ ((44 ∷ digits (get_or es i 0)) ++ (10 ∷ []))) (rooted_from a cs es (i + 1)) (rooted_step a cs es i (omega (arith, many)))
+        (prints_as w (ap (λ (y : ℕ). policy_at a cs i ++ ((44 ∷ digits y) ++ (10 ∷ []))) e))
 
-    pub rooted_end : n ≤ i → Written was at (concat (rooted_lines a cs es)) is then
+    pub rooted_end : n ≤ i → Prints a₀ (concat (rooted_lines a cs es)) b
     rooted_end h = printing_end p (ap (λ (l : List (List ℕ)). concat (rooted_of l (drop i cs) (drop i es))) (spent (rows_of a RUN) i (omega (arith, many))))
 
 -- ---- a partial answer
 
-pub partial_is : (name : Name) (was w₁ w₂ w₃ is : List ℕ) (at k₁ k₂ k₃ next : ℕ) (a l cs es : List ℕ) → Written was at (concat (head_lines name (verdicts_in a cs))) w₁ k₁ → Written w₁ k₁ (made_lines a) w₂ k₂
-    → Written w₂ k₂ (concat (log_lines (rows_of a NODE) l)) w₃ k₃ → Written w₃ k₃ (concat (rooted_lines a cs es)) is next → Written was at (partial_bytes name a l cs es) is next
+pub partial_is : {b c d e f : Out} (name : Name) (a l cs es : List ℕ) → Prints b (concat (head_lines name (verdicts_in a cs))) c → Prints c (made_lines a) d → Prints d (concat (log_lines (rows_of a NODE) l)) e → Prints e (concat (rooted_lines a cs es)) f
+    → Prints b (partial_bytes name a l cs es) f
 unfolding partial_bytes
-partial_is name was w₁ w₂ w₃ is at k₁ k₂ k₃ next a l cs es p q r s = written_append p (written_append q (written_append r s))
+partial_is name a l cs es p q r s = prints_two p (prints_two q (prints_two r s))

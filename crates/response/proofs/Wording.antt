@@ -1,28 +1,54 @@
 -- The words for a decision and a class. Assumes nothing.
-use mathlib.Core.Path.{◌≡◌, refl, sym, ap, ◌∙◌}
+use mathlib.Core.Path.{◌≡◌, refl, ap}
 use mathlib.Core.List.{List, [], ◌∷◌, ◌++◌}
-use Prim.Native.Nat.{ℕ, zero, suc}
+use Prim.Native.Nat.{ℕ}
 use Rattle.sheet.specs.Ascii.{ascii}
-use Rattle.residual.specs.Classes.{CLASS_TRUE, CLASS_FALSE, CLASS_ERROR}
-use Rattle.print.specs.Written.{Written}
-use Rattle.print.proofs.Writing.{written_append, written_as}
-use Rattle.listing.specs.Names.{unpadded}
-use Rattle.response.specs.Verdicts.{decision_of}
-use Rattle.response.specs.Printed.{decision_bytes, class_bytes}
+use Rattle.print.specs.declared.Out.{Out}
+use Rattle.print.specs.Out.{Prints}
+use Rattle.print.proofs.Outs.{prints_as, prints_two}
+use Rattle.sheet.specs.Answer.{decision_word}
+use Rattle.response.specs.Verdicts.{decision_of, effect_number, effect_said}
+use Rattle.response.specs.Printed.{decision_bytes, effect_bytes, class_bytes}
 use Rattle.response.specs.declared.Decision.{Decision}
+use Rattle.response.specs.declared.Decision.TheVariants.{Allow, Deny, Open}
+use Rattle.response.specs.declared.Effect.{Effect}
+use Rattle.response.specs.declared.Effect.TheVariants.{Permit, Forbid}
+use Rattle.tpe.specs.declared.Class.{Class}
+use Rattle.tpe.specs.declared.Class.TheVariants.{True, False, Error, Open as Openᶜ}
+use Rattle.tpe.specs.Classes.{class_in}
+use Rattle.residual.specs.Classes.{class_number}
 
-pub decided : (d x : Decision) (q : List ℕ) → d ≡ x → decision_bytes (decision_of x) ≡ q → decision_bytes (decision_of d) ≡ q
-decided d x q e p = ap (λ (y : Decision). decision_bytes (decision_of y)) e ∙ p
+pub decision_line_law : {a b c d : Out} (x : Decision) (q : List ℕ) → q ≡ ascii (decision_word (decision_of x)) → Prints a (ascii "decision=") b → Prints b q c → Prints c (10 ∷ []) d → Prints a (decision_bytes (decision_of x)) d
+decision_line_law x q e u v w = prints_as (prints_two u (prints_two v w)) (ap (λ (l : List ℕ). ascii "decision=" ++ (l ++ (10 ∷ []))) e)
 
-pub decision_line_law : (was w₁ w₂ is : List ℕ) (at k₁ k₂ next : ℕ) (d : Decision) (q : List ℕ) → decision_bytes (decision_of d) ≡ ascii "decision=" ++ (unpadded q ++ (10 ∷ []))
-    → Written was at (ascii "decision=") w₁ k₁ → Written w₁ k₁ (unpadded q) w₂ k₂ → Written w₂ k₂ (10 ∷ []) is next → Written was at (decision_bytes (decision_of d)) is next
-decision_line_law was w₁ w₂ is at k₁ k₂ next d q e u v w = written_as (written_append u (written_append v w)) (sym e)
+-- ---- the words by case
 
-pub classed : (c n : ℕ) (q : List ℕ) → c ≡ n → q ≡ class_bytes n → q ≡ class_bytes c
-classed c n q e p = p ∙ ap class_bytes (sym e)
+abbrev pub word_of : Decision → List ℕ
+word_of Allow = ascii "allow"
+word_of Deny = ascii "deny"
+word_of Open = ascii "open"
 
-pub class_over : (c : ℕ) → (c ≡ CLASS_TRUE → ⊥) → (c ≡ CLASS_FALSE → ⊥) → (c ≡ CLASS_ERROR → ⊥) → 44 ∷ ascii "open" ≡ class_bytes c
-class_over zero f g h = absurd (f refl)
-class_over (suc zero) f g h = absurd (g refl)
-class_over (suc (suc zero)) f g h = absurd (h refl)
-class_over (suc (suc (suc c))) f g h = refl
+pub decision_said_law : (d : Decision) → ascii (decision_word (decision_of d)) ≡ word_of d
+decision_said_law Allow = refl
+decision_said_law Deny = refl
+decision_said_law Open = refl
+
+abbrev pub effect_out : Effect → List ℕ
+effect_out Permit = ascii ",permit"
+effect_out Forbid = ascii ",forbid"
+
+pub effect_said_law : (e : Effect) → effect_bytes (effect_number (effect_said e)) ≡ effect_out e
+effect_said_law Permit = refl
+effect_said_law Forbid = refl
+
+abbrev pub class_out : Class → List ℕ
+class_out True = ascii ",true"
+class_out False = ascii ",false"
+class_out Error = ascii ",error"
+class_out Openᶜ = ascii ",open"
+
+pub class_said_law : (c : Class) → class_bytes (class_number (class_in c)) ≡ class_out c
+class_said_law True = refl
+class_said_law False = refl
+class_said_law Error = refl
+class_said_law Openᶜ = refl

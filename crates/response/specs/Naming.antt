@@ -1,5 +1,5 @@
 -- The policy that an answer names, by its number among those that run.
-use Rattle.std.specs.Prelude.{cond, List, [], ℕ, ltb, get_or}
+use Rattle.std.specs.Prelude.{cond, Option, Some, None, List, [], ℕ, ltb, get_or}
 use Rattle.std.proofs.Math.Option.{none, some}
 use Rattle.sheet.specs.Forms.{at}
 use Rattle.sheet.specs.Sheet.{firsts}
@@ -10,6 +10,11 @@ use Rattle.response.specs.Verdicts.{effect_is, verdicts_in}
 -- the id of policy i; none where there is no such policy
 unfoldable pub name_at : List ℕ → ℕ → Name
 name_at a i = cond (ltb i (get_or a RUN 0)) (some (at (get_or (rows_of a RUN) i []) 0)) none
+
+-- of the policy that is named, if one is
+abbrev pub name_of : List ℕ → Option ℕ → Name
+name_of a (Some i) = name_at a i
+name_of a None = none
 
 -- the ids of the policies that run
 unfoldable pub ids_in : List ℕ → List ℕ

@@ -8,6 +8,8 @@ use Rattle.forms.specs.Tags.{PERMIT, FORBID}
 use Rattle.table.specs.Layout.{RUN, rows_of}
 use Rattle.residual.specs.Classes.{class_number}
 use Rattle.response.specs.declared.Decision as D
+use Rattle.response.specs.declared.Effect as E
+use Rattle.response.specs.declared.Policies.{Policies}
 
 -- a class by its number; a greater number is open too
 abbrev pub class_in : ℕ → Class
@@ -35,6 +37,15 @@ verdicts_of (r ∷ rs) cs = record { effect = effect_in r; class = class_in (get
 -- the policies of a sheet that the words a hold
 unfoldable pub verdicts_in : List ℕ → List ℕ → List Verdict
 verdicts_in a cs = verdicts_of (rows_of a RUN) cs
+
+-- those of the code
+abbrev pub verdicts_said : Policies → List Verdict
+verdicts_said p = verdicts_in p.rows.now p.classes.now
+
+-- the effect that the code answers
+abbrev pub effect_said : E.Effect → Effect
+effect_said E.TheVariants.Permit = permit
+effect_said E.TheVariants.Forbid = forbid
 
 -- the decision that the code answers
 abbrev pub decision_of : D.Decision → Decision

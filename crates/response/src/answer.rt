@@ -1,190 +1,160 @@
-// The decision, the counts, the name and the policies printed from a place of the lent buffer on. Each call gives the place after its bytes.
+// The decision, the counts, the name and the policies printed into a lent buffer.
 ghost use Rattle.std.specs.Prelude.{[], ◌∷◌, ◌++◌, get_or};
 ghost use Rattle.table.specs.Layout.{RUN, rows_of};
-ghost use Rattle.print.specs.Written.{Written};
+ghost use Rattle.print.specs.Out.{Prints};
 ghost use Rattle.sheet.specs.Bytes.{digits};
 ghost use Rattle.sheet.specs.Answer.{printed, numbers, counts_of, concat, head_lines};
 ghost use Rattle.sheet.specs.Why.{why_item};
-ghost use Rattle.response.specs.Verdicts.{verdicts_in, decision_of};
-ghost use Rattle.response.specs.Naming.{name_at};
+ghost use Rattle.residual.specs.Classes.{class_number};
+ghost use Rattle.tpe.specs.Classes as Called;
+ghost use Rattle.response.specs.Verdicts.{effect_said, effect_number, verdicts_said, decision_of};
+ghost use Rattle.response.specs.Naming.{name_of};
 ghost use Rattle.response.specs.Printed.{id_bytes, decision_bytes, effect_bytes, class_bytes, listed, four_of, policy_at, policy_lines, complete_bytes, rooted_lines, partial_bytes};
 
-use crate::names::{class_name, decision_name};
-use crate::{Decision, class_of, counts_in, decision_of, effect_of};
-use forms::{FORBID, PERMIT};
-use listing::names::letters;
+use crate::{Decision, Effect, Policies};
 use listing::nodes::node_lines;
 use listing::number_after;
 use listing::values::made_values;
-use print::{byte, bytes};
+use print::Out;
 use table::{RUN, count, item, row};
+use tpe::Class;
 
 // The line of the decision.
-pub fn decision_line(out: &mut [u8], at: usize, decision: Decision) -> usize
-    ensures { Written out.old at (decision_bytes (decision_of decision)) out.new result }
+pub fn decision_line(out: &mut Out, decision: Decision)
+    ensures { Prints out.old (decision_bytes (decision_of decision)) out.new }
 {
-    let word = decision_name(decision);
-    let k = bytes(out, at, b"decision=");
-    let l = letters(out, k, &word);
-    byte(out, l, b'\n')
+    out.bytes(b"decision=");
+    out.bytes(decision.word());
+    out.byte(b'\n');
 }
 
 // The counts of one effect, after a separator: true, false, error, open.
-fn counts_of(
-    out: &mut [u8],
-    at: usize,
-    separator: u8,
-    rows: &[u32],
-    classes: &[u32],
-    effect: u32,
-) -> usize
-    ensures { Written out.old at (listed separator (four_of effect (verdicts_in rows.now classes.now))) out.new result }
+fn counts_of(out: &mut Out, separator: u8, policies: &Policies, effect: Effect)
+    ensures { Prints out.old (listed separator (four_of (effect_number (effect_said effect)) (verdicts_said policies.now))) out.new }
 {
-    let c = counts_in(rows, classes, effect);
-    let k = number_after(out, at, separator, c.trues as u64);
-    let l = number_after(out, k, b',', c.falses as u64);
-    let m = number_after(out, l, b',', c.errors as u64);
-    number_after(out, m, b',', c.opens as u64)
+    let counts = policies.counts(effect);
+    number_after(out, separator, counts.trues as u64);
+    number_after(out, b',', counts.falses as u64);
+    number_after(out, b',', counts.errors as u64);
+    number_after(out, b',', counts.opens as u64);
 }
 
 // The line of the counts: permits, then forbids.
-pub fn counts_line(out: &mut [u8], at: usize, rows: &[u32], classes: &[u32]) -> usize
-    ensures { Written out.old at (printed "counts" (numbers (counts_of (verdicts_in rows.now classes.now)))) out.new result }
+pub fn counts_line(out: &mut Out, policies: &Policies)
+    ensures { Prints out.old (printed "counts" (numbers (counts_of (verdicts_said policies.now)))) out.new }
 {
-    let k = bytes(out, at, b"counts");
-    let l = counts_of(out, k, b'=', rows, classes, PERMIT);
-    let m = counts_of(out, l, b',', rows, classes, FORBID);
-    byte(out, m, b'\n')
+    out.bytes(b"counts");
+    counts_of(out, b'=', policies, Effect::Permit);
+    counts_of(out, b',', policies, Effect::Forbid);
+    out.byte(b'\n');
 }
 
 // The line of the name: the id of the policy, or `none` where there is no such policy.
-pub fn why_line(out: &mut [u8], at: usize, rows: &[u32], policy: u32) -> usize
-    ensures { Written out.old at (printed "why" (why_item (name_at rows.now policy) ∷ [])) out.new result }
+pub fn why_line(out: &mut Out, rows: &[u32], policy: Option<u32>)
+    ensures { Prints out.old (printed "why" (why_item (name_of rows.now policy) ∷ [])) out.new }
 {
-    if policy < count(rows, RUN) {
-        let x = item(row(rows, RUN, policy), 1) as u64;
-        let k = bytes(out, at, b"why");
-        let l = number_after(out, k, b'=', x);
-        return byte(out, l, b'\n');
+    match policy {
+        Some(i) if i < count(rows, RUN) => {
+            out.bytes(b"why");
+            number_after(out, b'=', item(row(rows, RUN, i), 1) as u64);
+            out.byte(b'\n');
+        }
+        _ => out.bytes(b"why=none\n"),
     }
-    bytes(out, at, b"why=none\n")
 }
 
 // The lines that every answer begins with.
-pub fn head(out: &mut [u8], at: usize, rows: &[u32], classes: &[u32], policy: u32) -> usize
-    ensures { Written out.old at (concat (head_lines (name_at rows.now policy) (verdicts_in rows.now classes.now))) out.new result }
+pub fn head(out: &mut Out, policies: &Policies, why: Option<u32>)
+    ensures { Prints out.old (concat (head_lines (name_of policies.now.rows.now why) (verdicts_said policies.now))) out.new }
 {
-    let d = decision_of(rows, classes);
-    let k = decision_line(out, at, d);
-    let l = counts_line(out, k, rows, classes);
-    why_line(out, l, rows, policy)
+    decision_line(out, policies.decision());
+    counts_line(out, policies);
+    why_line(out, policies.rows, why);
 }
 
 // An effect after a comma.
-fn effect_word(out: &mut [u8], at: usize, effect: u32) -> usize
-    ensures { Written out.old at (effect_bytes effect) out.new result }
+#[tactic(auto, using(crate::proofs::Wording::effect_said_law))]
+fn effect_word(out: &mut Out, effect: Effect)
+    ensures { Prints out.old (effect_bytes (effect_number (effect_said effect))) out.new }
 {
     match effect {
-        PERMIT => bytes(out, at, b",permit"),
-        _ => bytes(out, at, b",forbid"),
+        Effect::Permit => out.bytes(b",permit"),
+        Effect::Forbid => out.bytes(b",forbid"),
     }
 }
 
 // A class after a comma.
-fn class_word(out: &mut [u8], at: usize, class: u32) -> usize
-    ensures { Written out.old at (class_bytes class) out.new result }
+#[tactic(auto, using(crate::proofs::Wording::class_said_law))]
+fn class_word(out: &mut Out, class: Class)
+    ensures { Prints out.old (class_bytes (class_number (Called.class_in class))) out.new }
 {
-    let word = class_name(class);
-    letters(out, at, &word)
+    match class {
+        Class::True => out.bytes(b",true"),
+        Class::False => out.bytes(b",false"),
+        Class::Error => out.bytes(b",error"),
+        Class::Open => out.bytes(b",open"),
+    }
 }
 
 // The line of policy `i` up to its id.
-fn policy_id(out: &mut [u8], at: usize, rows: &[u32], i: u32) -> usize
-    ensures { Written out.old at (id_bytes (get_or (rows_of rows.now RUN) i [])) out.new result }
+fn policy_id(out: &mut Out, rows: &[u32], i: u32)
+    ensures { Prints out.old (id_bytes (get_or (rows_of rows.now RUN) i [])) out.new }
 {
-    let x = item(row(rows, RUN, i), 1) as u64;
-    let k = bytes(out, at, b"policy");
-    number_after(out, k, b'=', x)
+    out.bytes(b"policy");
+    number_after(out, b'=', item(row(rows, RUN, i), 1) as u64);
 }
 
 // The line of policy `i` up to its class.
-pub fn policy_start(out: &mut [u8], at: usize, rows: &[u32], classes: &[u32], i: u32) -> usize
-    ensures { Written out.old at (policy_at rows.now classes.now i) out.new result }
+pub fn policy_start(out: &mut Out, policies: &Policies, i: u32)
+    ensures { Prints out.old (policy_at policies.now.rows.now policies.now.classes.now i) out.new }
 {
-    let e = effect_of(rows, i);
-    let c = class_of(classes, i);
-    let k = policy_id(out, at, rows, i);
-    let l = effect_word(out, k, e);
-    class_word(out, l, c)
+    policy_id(out, policies.rows, i);
+    effect_word(out, policies.effect(i));
+    class_word(out, policies.class(i));
 }
 
 // The policies of a complete answer.
-pub fn policies(out: &mut [u8], at: usize, rows: &[u32], classes: &[u32]) -> usize
-    ensures { Written out.old at (concat (policy_lines rows.now classes.now)) out.new result }
+pub fn policies(out: &mut Out, policies: &Policies)
+    ensures { Prints out.old (concat (policy_lines policies.now.rows.now policies.now.classes.now)) out.new }
 {
-    let n = count(rows, RUN);
-    let mut i = 0;
-    let mut k = at;
-    while i < n {
-        let l = policy_start(out, k, rows, classes, i);
-        k = byte(out, l, b'\n');
-        i += 1;
+    for i in 0..count(policies.rows, RUN) {
+        policy_start(out, policies, i);
+        out.byte(b'\n');
     }
-    k
 }
 
 // A complete answer that names this policy.
-pub fn complete(out: &mut [u8], at: usize, rows: &[u32], classes: &[u32], policy: u32) -> usize
-    ensures { Written out.old at (complete_bytes (name_at rows.now policy) rows.now classes.now) out.new result }
+pub fn complete(out: &mut Out, policies: &Policies, why: Option<u32>)
+    ensures { Prints out.old (complete_bytes (name_of policies.now.rows.now why) policies.now.rows.now policies.now.classes.now) out.new }
 {
-    let k = head(out, at, rows, classes, policy);
-    policies(out, k, rows, classes)
+    head(out, policies, why);
+    self::policies(out, policies);
 }
 
 // The line of policy `i` with the number of its root.
-fn rooted_line(out: &mut [u8], at: usize, rows: &[u32], classes: &[u32], i: u32, root: u64) -> usize
-    ensures { Written out.old at (policy_at rows.now classes.now i ++ ((44 ∷ digits root) ++ (10 ∷ []))) out.new result }
+fn rooted_line(out: &mut Out, policies: &Policies, i: u32, root: u64)
+    ensures { Prints out.old (policy_at policies.now.rows.now policies.now.classes.now i ++ ((44 ∷ digits root) ++ (10 ∷ []))) out.new }
 {
-    let l = policy_start(out, at, rows, classes, i);
-    let m = number_after(out, l, b',', root);
-    byte(out, m, b'\n')
+    policy_start(out, policies, i);
+    number_after(out, b',', root);
+    out.byte(b'\n');
 }
 
 // The policies of a partial answer: after the class stands the number of the residual's root, a word of `roots` for each policy.
-pub fn rooted_policies(
-    out: &mut [u8],
-    at: usize,
-    rows: &[u32],
-    classes: &[u32],
-    roots: &[u32],
-) -> usize
-    ensures { Written out.old at (concat (rooted_lines rows.now classes.now roots.now)) out.new result }
+pub fn rooted_policies(out: &mut Out, policies: &Policies, roots: &[u32])
+    ensures { Prints out.old (concat (rooted_lines policies.now.rows.now policies.now.classes.now roots.now)) out.new }
 {
-    let n = count(rows, RUN);
-    let mut i = 0;
-    let mut k = at;
-    while i < n {
-        let x = item(roots, i as usize) as u64;
-        k = rooted_line(out, k, rows, classes, i, x);
-        i += 1;
+    for i in 0..count(policies.rows, RUN) {
+        rooted_line(out, policies, i, item(roots, i as usize) as u64);
     }
-    k
 }
 
-// A partial answer that names this policy: `log` holds the residuals, `classes` and `roots` a word for each policy.
-pub fn partial(
-    out: &mut [u8],
-    at: usize,
-    rows: &[u32],
-    log: &[u32],
-    classes: &[u32],
-    roots: &[u32],
-    policy: u32,
-) -> usize
-    ensures { Written out.old at (partial_bytes (name_at rows.now policy) rows.now log.now classes.now roots.now) out.new result }
+// A partial answer that names this policy: `log` holds the residuals, `roots` a word for each policy.
+pub fn partial(out: &mut Out, policies: &Policies, log: &[u32], roots: &[u32], why: Option<u32>)
+    ensures { Prints out.old (partial_bytes (name_of policies.now.rows.now why) policies.now.rows.now log.now policies.now.classes.now roots.now) out.new }
 {
-    let k = head(out, at, rows, classes, policy);
-    let l = made_values(out, k, rows);
-    let m = node_lines(out, l, rows, log);
-    rooted_policies(out, m, rows, classes, roots)
+    head(out, policies, why);
+    made_values(out, policies.rows);
+    node_lines(out, policies.rows, log);
+    rooted_policies(out, policies, roots);
 }

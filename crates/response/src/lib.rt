@@ -3,68 +3,57 @@
 #![tactic(auto)]
 
 pub mod answer;
-pub mod names;
 
-ghost use Rattle.std.specs.Prelude.{◌≡◌, [], ◌&&◌, eqb, get_or};
+ghost use Rattle.std.specs.Prelude.{◌≡◌, [], ◌+◌, ◌<◌, get_or};
 ghost use Rattle.table.specs.Layout.{RUN, rows_of};
 ghost use Rattle.cedar.specs.Canonical.{bit};
 ghost use Rattle.cedar.specs.Response.{decision};
 ghost use Rattle.cedar.specs.Response as Cedar;
-ghost use Rattle.sheet.specs.Answer.{how_many};
+ghost use Rattle.sheet.specs.Ascii.{ascii};
+ghost use Rattle.sheet.specs.Answer.{decision_word, how_many};
 ghost use Rattle.sheet.specs.Why.{first_name};
-ghost use Rattle.residual.specs.Classes.{class_number, CLASS_TRUE, CLASS_FALSE, CLASS_ERROR, CLASS_OPEN};
-ghost use Rattle.response.specs.Verdicts.{effect_number, effect_in, class_in, effect_is, class_is, verdicts_in, decision_of};
-ghost use Rattle.response.specs.Naming.{name_at, true_in, why_in};
+ghost use Rattle.residual.specs.Classes.{CLASS_TRUE, CLASS_FALSE, CLASS_ERROR, CLASS_OPEN};
+ghost use Rattle.tpe.specs.Classes as Called;
+ghost use Rattle.response.specs.Verdicts.{effect_said, effect_in, class_in, effect_is, class_is, effect_number, decision_of, verdicts_said};
+ghost use Rattle.response.specs.Naming.{name_of, true_in, why_in};
 
-use forms::{FORBID, PERMIT};
-use residual::{CLASS_ERROR, CLASS_FALSE, CLASS_OPEN, CLASS_TRUE};
+use forms::FORBID;
+use residual::{CLASS_ERROR, CLASS_FALSE, CLASS_TRUE};
 use table::{RUN, count, item, row};
+use tpe::Class;
 use words::read;
 
 // What the policies decide.
-#[derive(Clone, Copy)]
+#[derive(Clone, Copy, Debug, PartialEq, Eq)]
 pub enum Decision {
     Allow,
     Deny,
     Open,
 }
 
-// The effect of policy `i`.
-pub fn effect_of(rows: &[u32], i: u32) -> u32
-    ensures { result ≡ effect_number (effect_in (get_or (rows_of rows.now RUN) i [])) }
-{
-    if item(row(rows, RUN, i), 2) == FORBID {
-        return FORBID;
+impl Decision {
+    // What its line says.
+    #[tactic(auto, using(crate::proofs::Wording::decision_said_law))]
+    pub fn word(self) -> &'static [u8]
+        ensures { result.now ≡ ascii (decision_word (decision_of self)) }
+    {
+        match self {
+            Decision::Allow => b"allow",
+            Decision::Deny => b"deny",
+            Decision::Open => b"open",
+        }
     }
-    PERMIT
 }
 
-// The class of policy `i`; a greater number is open too.
-pub fn class_of(classes: &[u32], i: u32) -> u32
-    ensures { result ≡ class_number (class_in (get_or classes.now i 0)) }
-{
-    let c = read(classes, i as usize);
-    if c < CLASS_OPEN {
-        return c;
-    }
-    CLASS_OPEN
-}
-
-// 1 where a policy's effect and class are these, else 0.
-fn hit(e: u32, c: u32, effect: u32, class: u32) -> u32
-    ensures { result ≡ bit (eqb e effect && eqb c class) }
-{
-    if e != effect {
-        return 0;
-    }
-    if c != class {
-        return 0;
-    }
-    1
+// The effect of a policy.
+#[derive(Clone, Copy, Debug, PartialEq, Eq)]
+pub enum Effect {
+    Permit,
+    Forbid,
 }
 
 // How many policies of one effect are true, false, in error and open.
-#[derive(Clone, Copy)]
+#[derive(Clone, Copy, Debug, Default, PartialEq, Eq)]
 pub struct Counts {
     pub trues: u32,
     pub falses: u32,
@@ -72,33 +61,122 @@ pub struct Counts {
     pub opens: u32,
 }
 
-// The counts of an effect.
-pub fn counts_in(rows: &[u32], classes: &[u32], effect: u32) -> Counts
-    ensures trues { result.trues ≡ how_many (effect_is effect) (class_is CLASS_TRUE) (verdicts_in rows.now classes.now) }
-    ensures falses { result.falses ≡ how_many (effect_is effect) (class_is CLASS_FALSE) (verdicts_in rows.now classes.now) }
-    ensures errors { result.errors ≡ how_many (effect_is effect) (class_is CLASS_ERROR) (verdicts_in rows.now classes.now) }
-    ensures opens { result.opens ≡ how_many (effect_is effect) (class_is CLASS_OPEN) (verdicts_in rows.now classes.now) }
-{
-    let n = count(rows, RUN);
-    let mut i = 0;
-    let mut trues = 0;
-    let mut falses = 0;
-    let mut errors = 0;
-    let mut opens = 0;
-    while i < n {
-        let e = effect_of(rows, i);
-        let c = class_of(classes, i);
-        trues += hit(e, c, effect, CLASS_TRUE);
-        falses += hit(e, c, effect, CLASS_FALSE);
-        errors += hit(e, c, effect, CLASS_ERROR);
-        opens += hit(e, c, effect, CLASS_OPEN);
-        i += 1;
+impl Counts {
+    // One more of this class.
+    fn with(self, class: Class) -> Counts
+        requires few { (self.trues < 4294967295) × (self.falses < 4294967295) × (self.errors < 4294967295) × (self.opens < 4294967295) }
+        ensures trues { result.trues ≡ self.trues + bit (class_is CLASS_TRUE (Called.class_in class)) }
+        ensures falses { result.falses ≡ self.falses + bit (class_is CLASS_FALSE (Called.class_in class)) }
+        ensures errors { result.errors ≡ self.errors + bit (class_is CLASS_ERROR (Called.class_in class)) }
+        ensures opens { result.opens ≡ self.opens + bit (class_is CLASS_OPEN (Called.class_in class)) }
+    {
+        match class {
+            Class::True => Counts {
+                trues: self.trues + 1,
+                ..self
+            },
+            Class::False => Counts {
+                falses: self.falses + 1,
+                ..self
+            },
+            Class::Error => Counts {
+                errors: self.errors + 1,
+                ..self
+            },
+            Class::Open => Counts {
+                opens: self.opens + 1,
+                ..self
+            },
+        }
     }
-    Counts {
-        trues,
-        falses,
-        errors,
-        opens,
+}
+
+// The policies that run: the words that hold their sheet, and a word of class for each of them.
+#[derive(Clone, Copy)]
+pub struct Policies<'a> {
+    pub rows: &'a [u32],
+    pub classes: &'a [u32],
+}
+
+impl<'a> Policies<'a> {
+    // The effect of policy `i`.
+    pub fn effect(&self, i: u32) -> Effect
+        ensures { effect_said result ≡ effect_in (get_or (rows_of self.now.rows.now RUN) i []) }
+    {
+        if item(row(self.rows, RUN, i), 2) == FORBID {
+            return Effect::Forbid;
+        }
+        Effect::Permit
+    }
+
+    // The class of policy `i`; a greater number is open too.
+    pub fn class(&self, i: u32) -> Class
+        ensures { Called.class_in result ≡ class_in (get_or self.now.classes.now i 0) }
+    {
+        match read(self.classes, i as usize) {
+            CLASS_TRUE => Class::True,
+            CLASS_FALSE => Class::False,
+            CLASS_ERROR => Class::Error,
+            _ => Class::Open,
+        }
+    }
+
+    // The counts of an effect.
+    pub fn counts(&self, effect: Effect) -> Counts
+        ensures trues { result.trues ≡ how_many (effect_is (effect_number (effect_said effect))) (class_is CLASS_TRUE) (verdicts_said self.now) }
+        ensures falses { result.falses ≡ how_many (effect_is (effect_number (effect_said effect))) (class_is CLASS_FALSE) (verdicts_said self.now) }
+        ensures errors { result.errors ≡ how_many (effect_is (effect_number (effect_said effect))) (class_is CLASS_ERROR) (verdicts_said self.now) }
+        ensures opens { result.opens ≡ how_many (effect_is (effect_number (effect_said effect))) (class_is CLASS_OPEN) (verdicts_said self.now) }
+    {
+        let mut counts = Counts::default();
+        for i in 0..count(self.rows, RUN) {
+            if self.effect(i) != effect {
+                continue;
+            }
+            counts = counts.with(self.class(i));
+        }
+        counts
+    }
+
+    // The decision that the classes give.
+    pub fn decision(&self) -> Decision
+        ensures { decision_of result ≡ decision (verdicts_said self.now) }
+    {
+        let permits = self.counts(Effect::Permit);
+        let forbids = self.counts(Effect::Forbid);
+        let true_forbids = forbids.trues > 0;
+        let true_permits = permits.trues > 0;
+        let residual_permits = permits.opens > 0;
+        let residual_forbids = forbids.opens > 0;
+        decide(
+            true_forbids,
+            true_permits,
+            residual_permits,
+            residual_forbids,
+        )
+    }
+
+    // The first policy of an effect that is called true.
+    fn first_true(&self, effect: Effect) -> Option<u32>
+        ensures { name_of self.now.rows.now result ≡ first_name (true_in self.now.rows.now self.now.classes.now (effect_number (effect_said effect))) }
+    {
+        for i in 0..count(self.rows, RUN) {
+            if self.effect(i) == effect && self.class(i) == Class::True {
+                return Some(i);
+            }
+        }
+        None
+    }
+
+    // The policy that the answer names: the first true forbid for a deny, the first true permit for an allow.
+    pub fn why(&self) -> Option<u32>
+        ensures { name_of self.now.rows.now result ≡ why_in self.now.rows.now self.now.classes.now }
+    {
+        match self.decision() {
+            Decision::Allow => self.first_true(Effect::Permit),
+            Decision::Deny => self.first_true(Effect::Forbid),
+            Decision::Open => None,
+        }
     }
 }
 
@@ -124,50 +202,4 @@ pub fn decide(
         return Decision::Open;
     }
     Decision::Deny
-}
-
-// The decision that the classes of the policies give.
-pub fn decision_of(rows: &[u32], classes: &[u32]) -> Decision
-    ensures { decision_of result ≡ decision (verdicts_in rows.now classes.now) }
-{
-    let permits = counts_in(rows, classes, PERMIT);
-    let forbids = counts_in(rows, classes, FORBID);
-    let true_forbids = forbids.trues > 0;
-    let true_permits = permits.trues > 0;
-    let residual_permits = permits.opens > 0;
-    let residual_forbids = forbids.opens > 0;
-    decide(
-        true_forbids,
-        true_permits,
-        residual_permits,
-        residual_forbids,
-    )
-}
-
-// The first policy of an effect that is called true, or the number of policies where there is none.
-fn first_true(rows: &[u32], classes: &[u32], effect: u32) -> u32
-    ensures { name_at rows.now result ≡ first_name (true_in rows.now classes.now effect) }
-{
-    let n = count(rows, RUN);
-    let mut i = 0;
-    while i < n {
-        let e = effect_of(rows, i);
-        let c = class_of(classes, i);
-        if hit(e, c, effect, CLASS_TRUE) == 1 {
-            return i;
-        }
-        i += 1;
-    }
-    n
-}
-
-// The policy that the answer names: the first true forbid for a deny, the first true permit for an allow; the number of policies where there is none.
-pub fn why_of(rows: &[u32], classes: &[u32]) -> u32
-    ensures { name_at rows.now result ≡ why_in rows.now classes.now }
-{
-    match decision_of(rows, classes) {
-        Decision::Allow => first_true(rows, classes, PERMIT),
-        Decision::Deny => first_true(rows, classes, FORBID),
-        Decision::Open => count(rows, RUN),
-    }
 }

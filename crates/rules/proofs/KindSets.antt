@@ -3,7 +3,7 @@ use mathlib.Core.Path.{◌≡◌, refl, sym, ap, ◌∙◌}
 use mathlib.Core.Bool.{Bool, true, false, ◌||◌}
 use mathlib.Core.List.{List, [], ◌∷◌}
 use mathlib.Core.Logic.{◌⊎◌, inl, inr}
-use Prim.Native.Nat.{ℕ, ◌+◌, ◌/◌, ◌≤◌, ◌<◌}
+use Prim.Native.Nat.{ℕ, suc, ◌+◌, ◌/◌, ◌≤◌, ◌<◌}
 use native.Mathlib.Numerals.{add-one}
 use native.Mathlib.Omega.{arith}
 use borrow.Author.Tests.{eq-eqb}
@@ -18,8 +18,8 @@ use Rattle.sheet.specs.Content.{schema}
 use Rattle.words.specs.Bits.{member, added}
 use Rattle.words.proofs.Bits.{added_is, length_added}
 use Rattle.table.specs.Layout.{rows_of, held, lines_held}
-use Rattle.fits.specs.Fit.{kinds_in, kinds_from, kinds_end, kind_in}
-use Rattle.fits.proofs.KindLaws.{kinds_first, kinds_next, kinds_end_law}
+use Rattle.fits.specs.Fit.{kinds_in, kind_in}
+use Rattle.typerows.specs.Types.{above_at}
 use Rattle.typesets.proofs.Members.{member_zeros}
 use Rattle.typesets.specs.Sets.{KIND_WORDS}
 use Rattle.rules.specs.Rules.{KINDS, KindSet, schema_at, pair_with}
@@ -44,26 +44,24 @@ or_end : (p : Bool) → (p || false) ≡ p
 or_end true = refl
 or_end false = refl
 
--- what set w has, and what is left of row q's kinds from word i on
-pub record Adding (q w : List ℕ) (i : ℕ) : Type 0 where
-  pub left : (k : ℕ) → k < KINDS → kind_in q k ≡ (member w k || mem_n k (kinds_from q i))
+-- what set w has, and what is left of row q's kinds l from kind i on
+pub record Adding (q l w : List ℕ) (i : ℕ) : Type 0 where
+  pub left : (k : ℕ) → k < KINDS → kind_in q k ≡ (member w k || mem_n k (drop i l))
   pub long : length w ≡ KIND_WORDS
-  pub low : 1 ≤ i
 
-pub adding_start : (q w : List ℕ) → w ≡ replicate KIND_WORDS 0 → Adding q w 1
+pub adding_start : (q l w : List ℕ) → l ≡ kinds_in q → w ≡ replicate KIND_WORDS 0 → Adding q l w 0
 unfolding kind_in
-adding_start q w e = record { left = λ k l. rw (e, member_zeros KIND_WORDS k, kinds_first q) refl; long = rw e refl; low = omega arith }
+adding_start q l w el e = record { left = λ k h. rw (e, member_zeros KIND_WORDS k, el) refl; long = rw e refl }
 
-module _ (q w : List ℕ) (i n : ℕ) (en : n ≡ kinds_end q) (g : Adding q w i) where
-  pub adding_on : (x : ℕ) (v : List ℕ) → i < n → x ≡ get_or q i 0 → v ≡ added w x → Adding q v (i + 1)
-  adding_on x v h ex ev = record {
-    left = λ k l. g.left k l ∙ rw (kinds_next q i g.low (omega arith), ← ex, ev, member_added w x k (let z = g.long in omega (arith, z))) (sym (or_assoc (member w k) (eqb k x) (mem_n k (kinds_from q (i + 1)))));
-    long = rw (ev, length_added w x) g.long;
-    low = omega (arith, g.low);
+module _ (q l w : List ℕ) (i : ℕ) (g : Adding q l w i) where
+  pub adding_on : (v : List ℕ) → i < length l → v ≡ added w (get_or l i 0) → Adding q l v (i + 1)
+  adding_on v h ev = record {
+    left = λ k n. g.left k n ∙ rw (add-one i, drop-cons l i 0 h, ev, member_added w (get_or l i 0) k (let z = g.long in omega (arith, z))) (sym (or_assoc (member w k) (eqb k (get_or l i 0)) (mem_n k (drop (suc i) l))));
+    long = rw ev (length_added w (get_or l i 0) ∙ g.long);
   }
 
-  pub adding_over : n ≤ i → KindSet q w
-  adding_over h = record { is = λ k l. sym (g.left k l ∙ rw (kinds_end_law q i (omega arith)) (or_end (member w k))) }
+  pub adding_over : length l ≤ i → KindSet q w
+  adding_over h = record { is = λ k n. sym (g.left k n ∙ rw (drop_of_length-le l h) (or_end (member w k))) }
 
 pub kind_is : (q w : List ℕ) (k : ℕ) (b : Bool) → KindSet q w → k < KINDS → b ≡ member w k → b ≡ kind_in q k
 kind_is q w k b s l e = e ∙ s.is k l
@@ -103,24 +101,8 @@ module _ (a q : List ℕ) (k : ℕ) where
   unfolding pair_with kind_in schema_at schema held lines_held
   pair_by = pairs_by_law k (drop 2 (drop 1 shape_line)) (kinds_in q) ∙ ap (λ (l : List ℕ). mem_n k (kinds_in q) || some_kind (λ m. mem_n m (kinds_in q)) l) (drop-drop 2 1 shape_line)
 
-  -- what is left of the kinds above, from word i of k's shape r on
-  pub record Pairing (r : List ℕ) (i : ℕ) : Type 0 where
-    pub left : pair_with a q k ≡ some_kind (kind_in q) (drop i r)
+  pub pair_own : (b : Bool) → b ≡ kind_in q k → b ≡ true → b ≡ pair_with a q k
+  pair_own b eb h = h ∙ sym (pair_by ∙ rw (← eb, h))
 
-  module _ (b : Bool) (eb : b ≡ kind_in q k) where
-    pub pair_own : b ≡ true → true ≡ pair_with a q k
-    pair_own h = sym (pair_by ∙ rw (← eb, h))
-
-    pub pair_start : (r : List ℕ) → b ≡ false → r ≡ shape_line → Pairing r 3
-    pair_start r h er = record { left = pair_by ∙ rw (← eb, h, er) refl }
-
-  module _ (r : List ℕ) (i : ℕ) (g : Pairing r i) where
-    pub pair_over : length r ≤ i → false ≡ pair_with a q k
-    pair_over h = sym (g.left ∙ rw (drop_of_length-le r h))
-
-    module _ (x : ℕ) (b : Bool) (h : i < length r) (ex : x ≡ get_or r i 0) (eb : b ≡ kind_in q x) where
-      pub pair_hit : b ≡ true → true ≡ pair_with a q k
-      pair_hit t = sym (g.left ∙ rw (drop-cons r i 0 h, ← ex, ← eb, t))
-
-      pub pair_on : b ≡ false → Pairing r (i + 1)
-      pair_on t = record { left = g.left ∙ rw (add-one i, drop-cons r i 0 h, ← ex, ← eb, t) refl }
+  pub pair_above : (b c : Bool) → b ≡ kind_in q k → b ≡ false → c ≡ some_kind (kind_in q) (above_at a k) → c ≡ pair_with a q k
+  pair_above b c eb h ec = ec ∙ sym (pair_by ∙ rw (← eb, h))

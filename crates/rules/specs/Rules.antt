@@ -1,7 +1,8 @@
 -- The type rules over the rows in the lent words: the schema and the types that the words hold. No rule asks for a text's bytes, so the
 -- sheet is left out.
-use Rattle.std.specs.Prelude.{◌≡◌, Bool, true, cond, ◌&&◌, List, [], ℕ, ◌<◌, eqb, ltb, get_or}
-use Rattle.std.proofs.Math.Option.{Option, none, some}
+use Rattle.std.specs.Prelude.{◌≡◌, Bool, true, cond, ◌&&◌, Option, Some, None, List, [], ℕ, ◌<◌, eqb, ltb, get_or}
+use Rattle.std.proofs.Math.Option.{none, some}
+use Rattle.std.proofs.Math.Option as Math
 use Rattle.cedar.specs.Value.{on_some}
 use Rattle.cedar.specs.Types.{Ty, tbool, some_kind, declared, Schema}
 use Rattle.cedar.specs.TypeRules.{undeclared, ordinary, false_if, allows}
@@ -12,13 +13,11 @@ use Rattle.words.specs.Bits.{member}
 use Rattle.table.specs.Layout.{rows_of, held}
 use Rattle.fits.specs.Fit.{kinds_in, kind_in}
 use Rattle.typerows.specs.Types.{record_at, attribute_at}
-use Rattle.rules.specs.declared.Rule.{Rule}
-use Rattle.rules.specs.declared.Rule.TheVariants.{Says, Silent}
 
 -- what a rule of the code says
-abbrev pub rule_in : Rule → Option Bool
-rule_in (Says b) = some b
-rule_in Silent = none
+abbrev pub rule_in : Option Bool → Math.Option Bool
+rule_in (Some b) = some b
+rule_in None = none
 
 -- the kinds that a set of kinds has bits for
 abbrev pub KINDS : ℕ
@@ -58,5 +57,5 @@ module _ (a : List ℕ) where
   lacking t k = ordinary (schema_at.shape k) && undeclared (declared t (schema_at.shape k).attrs)
 
   -- `has` on record type y
-  unfoldable pub record_rule : ℕ → ℕ → Option Bool
+  unfoldable pub record_rule : ℕ → ℕ → Math.Option Bool
   record_rule t y = false_if (undeclared (attribute_at a y t))

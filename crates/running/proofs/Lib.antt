@@ -1,4 +1,2 @@
 pub mod Looking
-pub mod Terms
-pub mod Links
 pub mod Runs

@@ -14,7 +14,7 @@ use Rattle.sheet.specs.Content.{runs_on, link_of, with_link, running, on_term}
 use Rattle.table.specs.Layout.{part, limits, limit, RUN, MADE, TOP, POLICY_WORDS, RUN_WORDS, rows_at, rows_of, held, with_row, Last, Sound}
 use Rattle.table.proofs.Rows.{count_rows, limit_small, lines_held_law}
 use Rattle.table.proofs.Frame.{word_kept, rows_kept, sound_kept, length_new, top_new, count_new, count_other, rest_new, rows_other, rows_own, sound_new}
-use Rattle.running.proofs.Links.{link_two}
+use Rattle.running.proofs.Looking.{link_two}
 use Rattle.running.specs.Chosen.{Choosable, Chosen, Runnable, with_run}
 
 -- ---- one row more

@@ -22,17 +22,15 @@ fn is_within(term: &[u32], day: u32) -> bool
 }
 
 // Whether a policy runs on a day: one without a term always does.
+#[tactic(auto, using(crate::proofs::Looking::no_term, crate::proofs::Looking::this_term))]
 fn runs_on(rows: &[u32], day: u32, policy: u32) -> bool
     ensures { result ≡ runs_on day (rows_of rows.now TERM) policy }
 {
-    let n = count(rows, TERM);
-    let mut i = 0;
-    while i < n {
+    for i in 0..count(rows, TERM) {
         let term = row(rows, TERM, i);
         if item(term, 1) == policy {
             return is_within(term, day);
         }
-        i += 1;
     }
     true
 }
@@ -45,12 +43,11 @@ struct Link {
 }
 
 // The link of a policy.
+#[tactic(auto, using(crate::proofs::Looking::no_link, crate::proofs::Looking::this_link))]
 fn link_of(rows: &[u32], policy: u32) -> Link
     ensures { result.principal ∷ result.resource ∷ [] ≡ link_of (rows_of rows.now LINK) policy }
 {
-    let n = count(rows, LINK);
-    let mut i = 0;
-    while i < n {
+    for i in 0..count(rows, LINK) {
         let line = row(rows, LINK, i);
         if policy == item(line, 1) {
             return Link {
@@ -58,7 +55,6 @@ fn link_of(rows: &[u32], policy: u32) -> Link
                 resource: item(line, 3),
             };
         }
-        i += 1;
     }
     Link {
         principal: MARK,
@@ -92,12 +88,9 @@ pub fn choose(rows: &mut [u32])
     ensures { Chosen rows.old rows.new }
 {
     let day = item(row(rows, DAY, 0), 1);
-    let n = count(rows, POLICY);
-    let mut i = 0;
-    while i < n {
+    for i in 0..count(rows, POLICY) {
         if runs_on(rows, day, i) {
             run_row(rows, i);
         }
-        i += 1;
     }
 }

@@ -1,11 +1,10 @@
 -- One step of a decimal number, at what is left of its digits from i on; that a number only grows as digits follow; indices and longs by their size. Assumes nothing.
-use Rattle.std.proofs.Common.{◌≡◌, ℕ, ◌+◌, ◌-◌, ◌*◌, ◌<◌, ◌≤◌, Bool, true, false, cond, ◌&&◌, leb, List, [], ◌∷◌, length, get_or, take, drop, sym, refl, ap, ◌∙◌, add-one, arith, drop_of_length-le, drop-cons, le-ltb, lt-ltb, eq-eqb, ne_eqb, le-leb, leb-true}
+use Rattle.std.proofs.Common.{◌≡◌, ℕ, ◌+◌, ◌-◌, ◌*◌, ◌<◌, ◌≤◌, Bool, true, false, cond, ◌&&◌, leb, List, [], ◌∷◌, length, get_or, take, drop, sym, refl, ap, ◌∙◌, add-one, arith, drop_of_length-le, drop-cons, le-ltb, lt-ltb, eq-eqb, ne_eqb, le-leb, leb-true, Some, None, SomeIff}
 use mathlib.Core.Option.{Option, none, some}
 use native.Mathlib.Decide.{dec_le}
 use borrow.Author.Tests.{lt-leb}
 use Rattle.sheet.specs.Bytes.{is_digit, digits_from, decimal, index, at_most, half, long, upward, downward}
-use Rattle.scan.specs.declared.Number as N
-use Rattle.scan.specs.Numbers.{number_of}
+use Rattle.scan.specs.Numbers.{number_of, Number}
 use Rattle.scan.proofs.Scans.{rest_is}
 
 uncons : (s : List ℕ) (i : ℕ) → i < length s → drop i s ≡ get_or s i 0 ∷ drop (i + 1) s
@@ -45,13 +44,13 @@ pub reading_start : (s : List ℕ) → Reading s 0 0
 reading_start s = record { near = omega arith; low = omega arith; left = refl }
 
 module _ (s : List ℕ) (n i : ℕ) (k : Reading s n i) where
-  pub reading_low : i < length s → get_or s i 0 < 48 → number_of N.TheVariants.Refused ≡ at_most half (digits_from 0 s)
+  pub reading_low : i < length s → get_or s i 0 < 48 → number_of None ≡ at_most half (digits_from 0 s)
   reading_low h l = sym (k.left ∙ ap (at_most half) (digit_low n s i h l))
 
-  pub reading_high : i < length s → 48 ≤ get_or s i 0 → 57 < get_or s i 0 → number_of N.TheVariants.Refused ≡ at_most half (digits_from 0 s)
+  pub reading_high : i < length s → 48 ≤ get_or s i 0 → 57 < get_or s i 0 → number_of None ≡ at_most half (digits_from 0 s)
   reading_high h l g = sym (k.left ∙ ap (at_most half) (digit_high n s i h l g))
 
-  pub reading_over : i < length s → 48 ≤ get_or s i 0 → get_or s i 0 ≤ 57 → 922337203685477580 < n → number_of N.TheVariants.Refused ≡ at_most half (digits_from 0 s)
+  pub reading_over : i < length s → 48 ≤ get_or s i 0 → get_or s i 0 ≤ 57 → 922337203685477580 < n → number_of None ≡ at_most half (digits_from 0 s)
   reading_over h l g o =
       sym (k.left ∙ ap (at_most half) (digit_on n s i h l g) ∙ over half (n * 10 + (get_or s i 0 - 48)) (drop (i + 1) s) (omega arith))
 
@@ -62,10 +61,10 @@ module _ (s : List ℕ) (n i : ℕ) (k : Reading s n i) where
   at_end : length s ≤ i → at_most half (digits_from 0 s) ≡ at_most half (some n)
   at_end h = k.left ∙ ap (at_most half) (digit_end n s i h)
 
-  pub reading_done : length s ≤ i → n ≤ 9223372036854775808 → number_of (N.TheVariants.Value n) ≡ at_most half (digits_from 0 s)
+  pub reading_done : length s ≤ i → n ≤ 9223372036854775808 → number_of (Some n) ≡ at_most half (digits_from 0 s)
   reading_done h l = sym (at_end h ∙ rw (le-leb n half l))
 
-  pub reading_most : length s ≤ i → 9223372036854775808 < n → number_of N.TheVariants.Refused ≡ at_most half (digits_from 0 s)
+  pub reading_most : length s ≤ i → 9223372036854775808 < n → number_of None ≡ at_most half (digits_from 0 s)
   reading_most h l = sym (at_end h ∙ rw (lt-leb n half l))
 
 -- ---- what is at most a cap
@@ -112,6 +111,11 @@ downward_most (some n) = go (dec_le n half)
     go (yes h) = rw (le-leb n half h) (rw (le-leb n half h) refl)
     go (no h) = rw (lt-leb n half (omega arith)) (by_false (leb 1 n))
 
+-- a long without a sign is its size and 2^63, where this is a number of 64 bits
+up_law : (n : ℕ) (r : Number) → SomeIff r (half + n < 18446744073709551616) (half + n) → number_of r ≡ upward (some n)
+up_law n None h = rw (le-ltb n half (omega (arith, h))) refl
+up_law n (Some m) h = rw (lt-ltb n half (omega (arith, h.0))) (ap some h.1)
+
 -- the form of a decimal number, by its length and its first byte
 decimal_empty : (s : List ℕ) → length s ≡ 0 → decimal s ≡ none
 decimal_empty [] h = refl
@@ -144,58 +148,58 @@ long_plus : (s : List ℕ) → (length s ≡ 0 → ⊥) → (get_or s 0 0 ≡ 45
 long_plus [] h e = absurd (h refl)
 long_plus (x ∷ xs) h e = rw (ne_eqb x 45 e)
 
+module _ (s : List ℕ) (a : length s ≡ 0 → ⊥) where
+  long_minus_law : get_or s 0 0 ≡ 45 → (o : Option ℕ) → o ≡ at_most half (decimal (take (length s - 1) (drop 1 s))) → downward o ≡ long s
+  long_minus_law b o e = ap downward (e ∙ ap (λ (l : List ℕ). at_most half (decimal l)) (rest_is s 1)) ∙ downward_most (decimal (drop 1 s)) ∙ sym (long_minus s a b)
+
+  long_plus_law : (get_or s 0 0 ≡ 45 → ⊥) → (o : Option ℕ) → o ≡ at_most half (decimal s) → upward o ≡ long s
+  long_plus_law b o e = ap upward e ∙ upward_most (decimal s) ∙ sym (long_plus s a b)
+
 -- ---- the answers of the readers, by the tests that lead to them
 
 module _ (s : List ℕ) where
-  pub size_empty : length s ≡ 0 → number_of N.TheVariants.Refused ≡ at_most half (decimal s)
+  pub size_empty : length s ≡ 0 → number_of None ≡ at_most half (decimal s)
   size_empty h = sym (ap (at_most half) (decimal_empty s h))
 
-  pub size_one : (r : N.Number) → length s ≡ 1 → number_of r ≡ at_most half (digits_from 0 s) → number_of r ≡ at_most half (decimal s)
+  pub size_one : (r : Number) → length s ≡ 1 → number_of r ≡ at_most half (digits_from 0 s) → number_of r ≡ at_most half (decimal s)
   size_one r h e = e ∙ ap (at_most half) (sym (decimal_one s (λ z. absurd (omega arith)) (omega arith)))
 
-  pub size_zero : (length s ≡ 0 → ⊥) → (length s ≡ 1 → ⊥) → get_or s 0 0 ≡ 48 → number_of N.TheVariants.Refused ≡ at_most half (decimal s)
+  pub size_zero : (length s ≡ 0 → ⊥) → (length s ≡ 1 → ⊥) → get_or s 0 0 ≡ 48 → number_of None ≡ at_most half (decimal s)
   size_zero a b h = sym (ap (at_most half) (decimal_zero s (omega arith) h))
 
-  pub size_more : (r : N.Number) → (length s ≡ 0 → ⊥) → (length s ≡ 1 → ⊥) → (get_or s 0 0 ≡ 48 → ⊥) → number_of r ≡ at_most half (digits_from 0 s) → number_of r ≡ at_most half (decimal s)
+  pub size_more : (r : Number) → (length s ≡ 0 → ⊥) → (length s ≡ 1 → ⊥) → (get_or s 0 0 ≡ 48 → ⊥) → number_of r ≡ at_most half (digits_from 0 s) → number_of r ≡ at_most half (decimal s)
   size_more r a b h e = e ∙ ap (at_most half) (sym (decimal_more s (omega arith) h))
 
-  module _ (r : N.Number) (e : number_of r ≡ at_most half (decimal s)) where
-    pub index_in : (n : ℕ) → r ≡ N.TheVariants.Value n → n ≤ 9999 → number_of (N.TheVariants.Value n) ≡ index s
-    index_in n v h = rw (at_most_some half (decimal s) n (sym (ap number_of v) ∙ e)).0 (rw (le-leb n 9999 h) refl)
+  pub index_in : (n : ℕ) → some n ≡ at_most half (decimal s) → n ≤ 9999 → number_of (Some n) ≡ index s
+  index_in n e h = rw (at_most_some half (decimal s) n e).0 (rw (le-leb n 9999 h) refl)
 
-    pub index_over : (n : ℕ) → r ≡ N.TheVariants.Value n → 9999 < n → number_of N.TheVariants.Refused ≡ index s
-    index_over n v h = rw (at_most_some half (decimal s) n (sym (ap number_of v) ∙ e)).0 (rw (lt-leb n 9999 h) refl)
+  pub index_over : (n : ℕ) → some n ≡ at_most half (decimal s) → 9999 < n → number_of None ≡ index s
+  index_over n e h = rw (at_most_some half (decimal s) n e).0 (rw (lt-leb n 9999 h) refl)
 
-    pub index_refused : r ≡ N.TheVariants.Refused → number_of N.TheVariants.Refused ≡ index s
-    index_refused v = at_most_none half 9999 (decimal s) (omega arith) (sym (ap number_of v) ∙ e)
+  pub index_refused : none ≡ at_most half (decimal s) → number_of None ≡ index s
+  index_refused e = at_most_none half 9999 (decimal s) (omega arith) e
 
-  pub long_none : length s ≡ 0 → number_of N.TheVariants.Refused ≡ long s
+  pub long_none : length s ≡ 0 → number_of None ≡ long s
   long_none h = sym (long_empty s h)
 
-  pub long_down : (m r : N.Number) → (length s ≡ 0 → ⊥) → get_or s 0 0 ≡ 45 → number_of m ≡ at_most half (decimal (take (length s - 1) (drop 1 s))) → number_of r ≡ downward (number_of m) → number_of r ≡ long s
-  long_down m r a b e d = d ∙ ap downward (e ∙ ap (λ (l : List ℕ). at_most half (decimal l)) (rest_is s 1)) ∙ downward_most (decimal (drop 1 s)) ∙ sym (long_minus s a b)
+  pub long_down : (n : ℕ) (r : Number) → (length s ≡ 0 → ⊥) → get_or s 0 0 ≡ 45 → some n ≡ at_most half (decimal (take (length s - 1) (drop 1 s))) → number_of r ≡ downward (some n) → number_of r ≡ long s
+  long_down n r a b e d = d ∙ long_minus_law s a b (some n) e
 
-  pub long_up : (m r : N.Number) → (length s ≡ 0 → ⊥) → (get_or s 0 0 ≡ 45 → ⊥) → number_of m ≡ at_most half (decimal s) → number_of r ≡ upward (number_of m) → number_of r ≡ long s
-  long_up m r a b e d = d ∙ ap upward e ∙ upward_most (decimal s) ∙ sym (long_plus s a b)
+  pub long_down_none : (length s ≡ 0 → ⊥) → get_or s 0 0 ≡ 45 → none ≡ at_most half (decimal (take (length s - 1) (drop 1 s))) → number_of None ≡ long s
+  long_down_none a b e = long_minus_law s a b none e
 
-module _ (r : N.Number) (n : ℕ) (v : r ≡ N.TheVariants.Value n) where
-  pub up_in : n < 9223372036854775808 → number_of (N.TheVariants.Value (9223372036854775808 + n)) ≡ upward (number_of r)
-  up_in h = rw v (rw (lt-ltb n half h) refl)
+  pub long_up : (n : ℕ) (r : Number) → (length s ≡ 0 → ⊥) → (get_or s 0 0 ≡ 45 → ⊥) → some n ≡ at_most half (decimal s) → SomeIff r (half + n < 18446744073709551616) (half + n) → number_of r ≡ long s
+  long_up n r a b e d = up_law n r d ∙ long_plus_law s a b (some n) e
 
-  pub up_over : 9223372036854775808 ≤ n → number_of N.TheVariants.Refused ≡ upward (number_of r)
-  up_over h = rw v (rw (le-ltb n half h) refl)
+  pub long_up_none : (length s ≡ 0 → ⊥) → (get_or s 0 0 ≡ 45 → ⊥) → none ≡ at_most half (decimal s) → number_of None ≡ long s
+  long_up_none a b e = long_plus_law s a b none e
 
-  pub down_zero : n ≡ 0 → number_of N.TheVariants.Refused ≡ downward (number_of r)
-  down_zero h = rw v (rw h refl)
+-- ---- a long after `-`, by its size
 
-  pub down_in : (n ≡ 0 → ⊥) → n ≤ 9223372036854775808 → number_of (N.TheVariants.Value (9223372036854775808 - n)) ≡ downward (number_of r)
-  down_in z h = rw v (rw (le-leb 1 n (omega arith), le-leb n half h) refl)
+module _ (n : ℕ) where
+  pub down_zero : n ≡ 0 → number_of None ≡ downward (some n)
+  down_zero h = rw h refl
 
-  pub down_over : (n ≡ 0 → ⊥) → 9223372036854775808 < n → number_of N.TheVariants.Refused ≡ downward (number_of r)
-  down_over z h = rw v (rw (le-leb 1 n (omega arith), lt-leb n half h) refl)
-
-pub refused_up : (r : N.Number) → r ≡ N.TheVariants.Refused → number_of N.TheVariants.Refused ≡ upward (number_of r)
-refused_up r v = rw v
-
-pub refused_down : (r : N.Number) → r ≡ N.TheVariants.Refused → number_of N.TheVariants.Refused ≡ downward (number_of r)
-refused_down r v = rw v
+  pub down_more : (n ≡ 0 → ⊥) → (r : Number) → SomeIff r (n ≤ half) (half - n) → number_of r ≡ downward (some n)
+  down_more z None h = rw (le-leb 1 n (omega arith), lt-leb n half (omega (arith, h))) refl
+  down_more z (Some m) h = rw (le-leb 1 n (omega arith), le-leb n half h.0) (ap some h.1)

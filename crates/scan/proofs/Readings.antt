@@ -1,5 +1,5 @@
 -- What a line or an item that was read is to the definition of a sheet's reading. Assumes nothing.
-use Rattle.std.proofs.Common.{◌≡◌, ℕ, suc, ◌+◌, ◌-◌, ◌<◌, ◌≤◌, Bool, true, false, cond, ◌&&◌, ltb, List, [], ◌∷◌, length, take, drop, sym, refl, ap, ◌∙◌, add-one, arith, drop_of_length-le, drop-drop, ltb-false, ltb-true, le-leb}
+use Rattle.std.proofs.Common.{◌≡◌, ℕ, suc, ◌+◌, ◌-◌, ◌<◌, ◌≤◌, Bool, true, false, cond, ◌&&◌, ltb, List, [], ◌∷◌, length, take, drop, sym, refl, ap, ◌∙◌, add-one, arith, drop_of_length-le, drop-drop, ltb-false, ltb-true, le-leb, Some, None}
 use mathlib.Core.Option.{Option, none, some}
 use Prim.Native.String.{String}
 use native.Mathlib.Decide.{dec_lt}
@@ -13,18 +13,15 @@ use Rattle.sheet.specs.Forms.{Mode, Slot, keys, forms, no_form, form_of, slot_at
 use Rattle.sheet.specs.State.{State}
 use Rattle.sheet.specs.Sheet.{fault, reads, ending, line_read, reading, reading_on}
 use Rattle.scan.specs.declared.Cursor.{Cursor}
-use Rattle.scan.specs.declared.Heading as H
 use Rattle.scan.specs.declared.Line as L
-use Rattle.scan.specs.declared.Item as I
-use Rattle.scan.specs.declared.Counted as C
-use Rattle.scan.specs.Places.{place, keyed, heading_of, entered, line_after, line_to, line_at, parts_from, items_at, item_end, item_at, lead, told, handed, number_at, index_by, first_index, LineRead, ItemRead, NumberRead}
+use Rattle.scan.specs.Places.{place, keyed, heading_of, entered, line_after, line_to, line_at, parts_from, items_at, item_end, item_at, lead, told, handed, number_at, index_by, first_index, LineRead, ItemRead, NumberRead, Heading, Item, Counted}
 use Rattle.scan.proofs.Scans.{drop_take}
-use Rattle.scan.proofs.Splits.{found_le, split_parts, split_at, from_on, from_end}
+use Rattle.scan.proofs.Splits.{found_le, some_pair, split_parts, split_at, from_on, from_end}
 
 -- ---- items: reading one takes the first of those left
 
 module _ (s : List ℕ) (c : Cursor) where
-  pub items_end : I.TheVariants.End ≡ item_at s c → items_at s c ≡ []
+  pub items_end : None ≡ item_at s c → items_at s c ≡ []
   unfolding item_at
   items_end e = go (dec_lt (length s) c.at)
     where
@@ -57,7 +54,7 @@ walked s c e next h f m =
       items = rw (a, f) (items_first s c h);
     }
 
-pub items_part : (s : List ℕ) (c : Cursor) (e : ℕ) (next : Cursor) → I.TheVariants.Part e next ≡ item_at s c → Walked s c e next
+pub items_part : (s : List ℕ) (c : Cursor) (e : ℕ) (next : Cursor) → Some (e, next) ≡ item_at s c → Walked s c e next
 unfolding item_at
 items_part s c e next q = go (dec_lt (length s) c.at)
   where
@@ -66,9 +63,9 @@ items_part s c e next q = go (dec_lt (length s) c.at)
     go (no d) =
         let h : c.at ≤ length s = omega arith in
         let y = rw (le-leb c.at (length s) h) at q in
-        let f : e ≡ item_end s c.at = cc in
-        let m : next ≡ place c.line (item_end s c.at + 1) = cc in
-        walked s c e next h f (m ∙ ap (λ (i : ℕ). place c.line (i + 1)) (sym f))
+        let p = some_pair y in
+        let f : e ≡ item_end s c.at = p.0 in
+        walked s c e next h f (p.1 ∙ ap (λ (i : ℕ). place c.line (i + 1)) (sym f))
 
 -- ---- numbers: the first item as an index
 
@@ -81,11 +78,11 @@ part_lead : (s : List ℕ) (c : Cursor) → part s c.at (item_end s c.at) ≡ le
 part_lead s c = let z : item_end s c.at - c.at ≡ up_to 44 (drop c.at s) = omega arith in ap (λ (n : ℕ). take n (drop c.at s)) z
 
 module _ (s : List ℕ) (c : Cursor) (n : ℕ) (next : Cursor) where
-  handed_some : (k : ℕ) (o : Option ℕ) → C.TheVariants.Value n next ≡ handed c (told k o) → (o ≡ some n) × (next ≡ place c.line (c.at + k + 1))
+  handed_some : (k : ℕ) (o : Option ℕ) → Some (n, next) ≡ handed c (told k o) → (o ≡ some n) × (next ≡ place c.line (c.at + k + 1))
   handed_some k none q = let z : ◌≡◌ {A = ℕ} 0 1 = cc in absurd (omega arith)
-  handed_some k (some i) q = let a : i ≡ n = cc in let b : next ≡ place c.line (c.at + k + 1) = cc in (ap some a, b)
+  handed_some k (some i) q = let p = some_pair q in (ap some (sym p.0), p.1)
 
-  pub numbered : C.TheVariants.Value n next ≡ number_at s c → Numbered s c n next
+  pub numbered : Some (n, next) ≡ number_at s c → Numbered s c n next
   unfolding number_at
   numbered q = go (dec_lt (length s) c.at)
     where
@@ -158,32 +155,33 @@ no_row m t (f ∷ fs) h = go (counted t (suc (length fs))) (ap (λ (s : Slot). i
 -- ---- a line's heading and its row
 
 module _ (m : Mode) (l : List ℕ) where
-  pub row_keyed : (k n : ℕ) → H.TheVariants.Keyed k n ≡ heading_of l → (n < length l) × (row_of m l ≡ row_of_value m k (drop (n + 1) l))
+  pub row_keyed : (k n : ℕ) → Some (k, n) ≡ heading_of l → (n < length l) × (row_of m l ≡ row_of_value m k (drop (n + 1) l))
   unfolding heading_of row_of
   row_keyed k n e = go (printable l) (ltb (up_to 61 l) (length l)) refl (word_number (take (up_to 61 l) l) keys) refl e
     where
       Goal : Bool → Type 0
       Goal b = (n < length l) × (cond b (row_of_value m (place_in (take (up_to 61 l) l) keys) (drop (suc (up_to 61 l)) l)) [] ≡ row_of_value m k (drop (n + 1) l))
 
-      none_of : (b : Bool) → H.TheVariants.Keyed k n ≡ H.TheVariants.Malformed → Goal b
+      none_of : (b : Bool) → ◌≡◌ {A = Heading} (Some (k, n)) None → Goal b
       none_of b q = let z : ◌≡◌ {A = ℕ} 0 1 = cc in absurd (omega arith)
 
       go : (t u : Bool) → ltb (up_to 61 l) (length l) ≡ u → (o : Option ℕ) → word_number (take (up_to 61 l) l) keys ≡ o
-          → H.TheVariants.Keyed k n ≡ cond (t && u) (keyed (up_to 61 l) o) H.TheVariants.Malformed → Goal (t && u)
+          → Some (k, n) ≡ cond (t && u) (keyed (up_to 61 l) o) None → Goal (t && u)
       go false u d o f q = none_of (false && u) q
       go true false d o f q = none_of false q
       go true true d none f q = none_of true q
       go true true d (some j) f q =
-          let z : n ≡ up_to 61 l = cc in
-          let y : k ≡ j = cc in
+          let p = some_pair q in
+          let z : n ≡ up_to 61 l = p.1 in
+          let y : k ≡ j = p.0 in
           let x : place_in (take (up_to 61 l) l) keys ≡ k = place_is (take (up_to 61 l) l) keys j f ∙ sym y in
           (omega (arith, ltb-true (up_to 61 l) (length l) d), rw (x, add-one n, z))
 
-  pub row_malformed : H.TheVariants.Malformed ≡ heading_of l → row_of m l ≡ []
+  pub row_malformed : None ≡ heading_of l → row_of m l ≡ []
   unfolding heading_of row_of
   row_malformed e = go (printable l && ltb (up_to 61 l) (length l)) (word_number (take (up_to 61 l) l) keys) refl e
     where
-      go : (t : Bool) (o : Option ℕ) → word_number (take (up_to 61 l) l) keys ≡ o → H.TheVariants.Malformed ≡ cond t (keyed (up_to 61 l) o) H.TheVariants.Malformed
+      go : (t : Bool) (o : Option ℕ) → word_number (take (up_to 61 l) l) keys ≡ o → None ≡ cond t (keyed (up_to 61 l) o) None
           → cond t (row_of_value m (place_in (take (up_to 61 l) l) keys) (drop (suc (up_to 61 l)) l)) [] ≡ []
       go false o f q = refl
       go true (some j) f q = let z : ◌≡◌ {A = ℕ} 0 1 = cc in absurd (omega arith)
@@ -237,12 +235,12 @@ module _ (s : List ℕ) (c : Cursor) where
       end_of : L.TheVariants.Entry k equals e next ≡ L.TheVariants.End → Entered s c k equals e next
       end_of y = let z : ◌≡◌ {A = ℕ} 0 1 = cc in absurd (omega arith)
 
-      go : (t u : Bool) → ltb stop (length s) ≡ t → (h : H.Heading) → heading_of (part s c.at stop) ≡ h
+      go : (t u : Bool) → ltb stop (length s) ≡ t → (h : Heading) → heading_of (part s c.at stop) ≡ h
           → L.TheVariants.Entry k equals e next ≡ cond t (entered c stop h) (cond u L.TheVariants.Faulty L.TheVariants.End) → Entered s c k equals e next
       go false true d h f y = none_of y
       go false false d h f y = end_of y
-      go true u d H.TheVariants.Malformed f y = none_of y
-      go true u d (H.TheVariants.Keyed j n) f y =
+      go true u d None f y = none_of y
+      go true u d (Some (j, n)) f y =
           let lt : stop < length s = ltb-true stop (length s) d in
           let ek : k ≡ j = cc in
           let eq : equals ≡ place c.line (c.at + n) = cc in
@@ -300,9 +298,9 @@ module _ (s : List ℕ) (c : Cursor) (m : Mode) (st : State) (i : ℕ) where
       other : L.TheVariants.End ≡ L.TheVariants.Faulty → Goal
       other y = let z : ◌≡◌ {A = ℕ} 0 1 = cc in absurd (omega arith)
 
-      go : (t u : Bool) → ltb c.at (length s) ≡ u → (h : H.Heading) → L.TheVariants.End ≡ cond t (entered c (stop s c) h) (cond u L.TheVariants.Faulty L.TheVariants.End) → Goal
-      go true u d (H.TheVariants.Keyed j n) y = let z : ◌≡◌ {A = ℕ} 0 1 = cc in absurd (omega arith)
-      go true u d H.TheVariants.Malformed y = other y
+      go : (t u : Bool) → ltb c.at (length s) ≡ u → (h : Heading) → L.TheVariants.End ≡ cond t (entered c (stop s c) h) (cond u L.TheVariants.Faulty L.TheVariants.End) → Goal
+      go true u d (Some (j, n)) y = let z : ◌≡◌ {A = ℕ} 0 1 = cc in absurd (omega arith)
+      go true u d None y = other y
       go false true d h y = other y
       go false false d h y = rw (drop_of_length-le s (ltb-false c.at (length s) d)) refl
 
@@ -313,10 +311,10 @@ module _ (s : List ℕ) (c : Cursor) (m : Mode) (st : State) (i : ℕ) where
       Goal : Type 0
       Goal = reading_on m (split 10 (drop c.at s)) st i ≡ reads st 3 i
 
-      go : (t u : Bool) → ltb (stop s c) (length s) ≡ t → ltb c.at (length s) ≡ u → (h : H.Heading) → heading_of (part s c.at (stop s c)) ≡ h
+      go : (t u : Bool) → ltb (stop s c) (length s) ≡ t → ltb c.at (length s) ≡ u → (h : Heading) → heading_of (part s c.at (stop s c)) ≡ h
           → L.TheVariants.Faulty ≡ cond t (entered c (stop s c) h) (cond u L.TheVariants.Faulty L.TheVariants.End) → Goal
-      go true u d e (H.TheVariants.Keyed j n) f y = let z : ◌≡◌ {A = ℕ} 0 1 = cc in absurd (omega arith)
-      go true u d e H.TheVariants.Malformed f y =
+      go true u d e (Some (j, n)) f y = let z : ◌≡◌ {A = ℕ} 0 1 = cc in absurd (omega arith)
+      go true u d e None f y =
           let lt : stop s c < length s = ltb-true (stop s c) (length s) d in
           let l : List ℕ = part s c.at (stop s c) in
           let ls = split 10 (drop (stop s c + 1) s) in
@@ -338,11 +336,11 @@ line_read_law s c (L.TheVariants.Entry k equals e next) q = record { is = q; rea
 line_read_law s c L.TheVariants.Faulty q = record { is = q; reads_on = λ m st i. reading_faulty s c m st i q }
 line_read_law s c L.TheVariants.End q = record { is = q; reads_on = λ m st i. reading_end s c m st i q }
 
-pub item_read : (s : List ℕ) (c : Cursor) (r : I.Item) → r ≡ item_at s c → ItemRead s c r
-item_read s c (I.TheVariants.Part e next) q = record { is = q; items = (items_part s c e next q).items }
-item_read s c I.TheVariants.End q = record { is = q; items = items_end s c q }
+pub item_read : (s : List ℕ) (c : Cursor) (r : Item) → r ≡ item_at s c → ItemRead s c r
+item_read s c (Some (e, next)) q = record { is = q; items = (items_part s c e next q).items }
+item_read s c None q = record { is = q; items = items_end s c q }
 
-pub number_read : (s : List ℕ) (c : Cursor) (r : C.Counted) → r ≡ number_at s c → NumberRead s c r
+pub number_read : (s : List ℕ) (c : Cursor) (r : Counted) → r ≡ number_at s c → NumberRead s c r
 unfolding number_at
 number_read s c r e = record { is = e; index_is = go (dec_lt (length s) c.at) ∙ ap index_by (sym e) }
   where

@@ -1,6 +1,10 @@
 -- A step of a loop over a text, for each definition that goes down a list: at index i the list is `drop i s`. Assumes nothing.
-use Rattle.std.proofs.Common.{◌≡◌, ℕ, zero, suc, ◌+◌, ◌-◌, ◌/◌, ◌<◌, ◌≤◌, Bool, true, false, cond, not, ◌&&◌, leb, List, [], ◌∷◌, length, get_or, take, drop, sym, refl, ap, ◌∙◌, add-one, arith, length-drop, drop_of_length-le, take_all, drop-cons, drop-drop, eq-eqb, ne_eqb, le-leb}
-use borrow.Author.Tests.{lt-leb, not-false, not-true}
+use Rattle.std.proofs.Common.{◌≡◌, ℕ, zero, suc, ◌+◌, ◌-◌, ◌/◌, ◌<◌, ◌≤◌, Bool, true, false, cond, not, ◌&&◌, leb, List, [], ◌∷◌, length, get_or, take, drop, sym, refl, ap, ◌∙◌, add-one, arith, length-drop, drop_of_length-le, take_all, drop-cons, drop-drop, eq-eqb, ne_eqb, le-leb, Some, None, position, nat_eq, nat_lt}
+use Rattle.std.specs.Option.{unwrap_or}
+use Rattle.std.specs.List.{position_or_len}
+use Rattle.std.proofs.lemmas.List.Sums.{prefix_len-le-length}
+use Rattle.std.proofs.lemmas.List.Recursion.{is_position_or_len}
+use borrow.Author.Tests.{ltb-false, lt-leb, not-false, not-true}
 use lib.Count.{count_trailing_zeros}
 use lib.Seq.{take-nil, drop-nil}
 use Rattle.words.specs.Log.{part}
@@ -18,18 +22,11 @@ module _ (c : ℕ) (s : List ℕ) (i : ℕ) where
   up_to_end : length s ≤ i → up_to c (drop i s) ≡ 0
   up_to_end h = rw (drop_of_length-le s h)
 
-module _ (a b : List ℕ) (i : ℕ) (ha : i < length a) (hb : i < length b) where
-  same_on : get_or a i 0 ≡ get_or b i 0 → same (drop i a) (drop i b) ≡ same (drop (i + 1) a) (drop (i + 1) b)
-  same_on e = rw (add-one i, drop-cons a i 0 ha, drop-cons b i 0 hb, eq-eqb _ _ e)
-
-same_end : (a b : List ℕ) (i : ℕ) → length a ≤ i → length b ≤ i → same (drop i a) (drop i b) ≡ true
-same_end a b i ha hb = rw (drop_of_length-le a ha, drop_of_length-le b hb)
-
 and_false : (t : Bool) → (t && false) ≡ false
 and_false true = refl
 and_false false = refl
 
-same_length : (a b : List ℕ) → (length a ≡ length b → ⊥) → same a b ≡ false
+pub same_length : (a b : List ℕ) → (length a ≡ length b → ⊥) → same a b ≡ false
 same_length [] [] e = absurd (e refl)
 same_length [] (y ∷ b) e = refl
 same_length (x ∷ a) [] e = refl
@@ -46,47 +43,34 @@ module _ (s : List ℕ) (i : ℕ) where
 
 -- ---- the turns of the loops
 
--- where a search for c from `from` on stands: at i
-pub record Finding (c : ℕ) (s : List ℕ) (from i : ℕ) : Type 0 where
-  pub left : from + up_to c (drop from s) ≡ i + up_to c (drop i s)
+-- the first place that passes a test, or the end
+first_or_end : (p : ℕ → Bool) (l : List ℕ) → unwrap_or (position p l) (length l) ≡ position_or_len p l
+first_or_end p l = go (nat_lt (position_or_len p l) (length l)) refl
+  where
+    most : position_or_len p l ≤ length l
+    most = prefix_len-le-length (λ (x : ℕ). not (p x)) l
 
-pub finding_start : (c : ℕ) (s : List ℕ) (from : ℕ) → Finding c s from from
-finding_start c s from = record { left = refl }
+    go : (t : Bool) → nat_lt (position_or_len p l) (length l) ≡ t → unwrap_or (cond t (Some (position_or_len p l)) None) (length l) ≡ position_or_len p l
+    go true e = refl
+    go false e = omega (arith, most, ltb-false (position_or_len p l) (length l) e)
 
-module _ (c : ℕ) (s : List ℕ) (from i : ℕ) (k : Finding c s from i) where
-  pub finding_here : i < length s → get_or s i 0 ≡ c → i ≡ from + up_to c (drop from s)
-  finding_here h e = omega (arith, k.left, up_to_here c s i h e)
+step_of : (t : Bool) (n : ℕ) → cond t 0 (suc n) ≡ cond t 0 (1 + n)
+step_of true n = refl
+step_of false n = omega arith
 
-  pub finding_on : i < length s → (get_or s i 0 ≡ c → ⊥) → Finding c s from (i + 1)
-  finding_on h e = record { left = omega (arith, k.left, up_to_on c s i h e) }
+pub up_to_found : (c : ℕ) (l : List ℕ) → unwrap_or (position (λ (x : ℕ). nat_eq x c) l) (length l) ≡ up_to c l
+up_to_found c l =
+    first_or_end (λ (x : ℕ). nat_eq x c) l ∙ sym (is_position_or_len (up_to c) (λ (x : ℕ). nat_eq x c) refl (λ x xs. step_of (nat_eq x c) (up_to c xs)) l)
 
-  pub finding_end : length s ≤ i → i ≡ from + up_to c (drop from s)
-  finding_end h = omega (arith, k.left, up_to_end c s i h)
+pub plain_to_found : (l : List ℕ) → unwrap_or (position (λ (x : ℕ). not (is_printable x)) l) (length l) ≡ plain_to l
+plain_to_found l = first_or_end (λ (x : ℕ). not (is_printable x)) l ∙ sym (is_position_or_len plain_to (λ (x : ℕ). not (is_printable x)) refl step l)
+  where
+    go : (t : Bool) (n : ℕ) → cond t (suc n) 0 ≡ cond (not t) 0 (1 + n)
+    go true n = omega arith
+    go false n = refl
 
--- where a comparison from the end stands: the elements from i on are the same
-pub record Comparing (a b : List ℕ) (i : ℕ) : Type 0 where
-  pub long : length a ≡ length b
-  pub near : i ≤ length a
-  pub rest : same (drop i a) (drop i b) ≡ true
-
-pub comparing_never : (a b : List ℕ) → (length a ≡ length b → ⊥) → false ≡ same a b
-comparing_never a b e = sym (same_length a b e)
-
-pub comparing_start : (a b : List ℕ) → length a ≡ length b → Comparing a b (length a)
-comparing_start a b e = record { long = e; near = omega arith; rest = same_end a b (length a) (omega arith) (omega (arith, e)) }
-
-module _ (a b : List ℕ) (i : ℕ) (k : Comparing a b i) where
-  pub comparing_on : 0 < i → get_or a (i - 1) 0 ≡ get_or b (i - 1) 0 → Comparing a b (i - 1)
-  comparing_on h e =
-      let z : i - 1 + 1 ≡ i = omega arith in
-      record {
-        long = k.long;
-        near = omega (arith, k.near);
-        rest = same_on a b (i - 1) (omega (arith, k.near)) (omega (arith, k.near, k.long)) e ∙ ap (λ (j : ℕ). same (drop j a) (drop j b)) z ∙ k.rest;
-      }
-
-  pub comparing_end : i ≤ 0 → true ≡ same a b
-  comparing_end h = let z : i ≡ 0 = omega arith in sym (ap (λ (j : ℕ). same (drop j a) (drop j b)) (sym z) ∙ k.rest)
+    step : (x : ℕ) (xs : List ℕ) → plain_to (x ∷ xs) ≡ cond (not (is_printable x)) 0 (1 + plain_to xs)
+    step x xs = go (is_printable x) (plain_to xs)
 
 -- where a test of bytes stands: the first i are printable
 pub record Printing (s : List ℕ) (i : ℕ) : Type 0 where

@@ -1,10 +1,18 @@
 -- The parts of a text between separators, found one after the other. Assumes nothing.
-use Rattle.std.proofs.Common.{◌≡◌, ℕ, suc, ◌+◌, ◌-◌, ◌<◌, ◌≤◌, Bool, true, false, cond, eqb, ltb, List, [], ◌∷◌, length, take, drop, refl, ap, ◌∙◌, suc-le-suc, zero-le, arith, length-drop, drop-drop, ltb-false, ltb-true, le-ltb, lt-ltb, le-leb}
+use Rattle.std.proofs.Common.{◌≡◌, ℕ, suc, ◌+◌, ◌-◌, ◌<◌, ◌≤◌, Bool, true, false, cond, eqb, ltb, List, [], ◌∷◌, length, take, drop, refl, ap, ◌∙◌, suc-le-suc, zero-le, arith, length-drop, drop-drop, ltb-false, ltb-true, le-ltb, lt-ltb, le-leb, Some}
+use Rattle.std.specs.Prelude as Std
 use borrow.Author.Tests.{lt-leb}
 use lib.Dec.{leb-suc-suc}
 use Rattle.words.specs.Log.{part}
 use Rattle.sheet.specs.Bytes.{up_to, ahead, split}
 use Rattle.scan.specs.Places.{parts_from}
+
+-- a pair that was found
+some_is : {A : Type 0} {a b : A} → Some a ≡ Some b → a ≡ b
+some_is e = cc
+
+pub some_pair : {A B : Type 0} {a c : A} {b d : B} → ◌≡◌ {A = Std.Option (A × B)} (Some (a, b)) (Some (c, d)) → (a ≡ c) × (b ≡ d)
+some_pair {A = A} {B = B} e = let p = some_is e in (ap (λ (x : A × B). x.0) p, ap (λ (x : A × B). x.1) p)
 
 pub up_to_le : (c : ℕ) (l : List ℕ) → up_to c l ≤ length l
 up_to_le c [] = zero-le

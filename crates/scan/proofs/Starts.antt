@@ -1,5 +1,5 @@
 -- A line found by its key and by the first byte that is not printable. Assumes nothing.
-use Rattle.std.proofs.Common.{◌≡◌, ℕ, zero, suc, ◌+◌, ◌-◌, ◌<◌, ◌≤◌, Bool, true, false, cond, ◌&&◌, eqb, ltb, List, [], ◌∷◌, map, length, get_or, take, drop, sym, refl, ap, ◌∙◌, add-one, arith, length-drop, drop_of_length-le, length-take-le, get_or-drop, drop-cons, take-take, ltb-true, le-ltb, lt-ltb, eq-eqb, ne_eqb}
+use Rattle.std.proofs.Common.{◌≡◌, ℕ, zero, suc, ◌+◌, ◌-◌, ◌<◌, ◌≤◌, Bool, true, false, cond, ◌&&◌, eqb, ltb, List, [], ◌∷◌, map, length, get_or, take, drop, sym, refl, ap, ◌∙◌, add-one, arith, length-drop, drop_of_length-le, length-take-le, get_or-drop, drop-cons, take-take, ltb-true, le-ltb, lt-ltb, eq-eqb, ne_eqb, Some, None}
 use mathlib.Core.Option.{Option, none, some}
 use native.Mathlib.Decide.{dec_lt}
 use lib.ListN.{get_or-eq_default}
@@ -11,12 +11,11 @@ use Rattle.sheet.specs.Forms.{keys, word_number}
 use Rattle.sheet.proofs.reading.Lines.{and_both}
 use Rattle.sheet.proofs.demand3.TwoSheets.{same_is}
 use Rattle.scan.specs.declared.Cursor.{Cursor}
-use Rattle.scan.specs.declared.Number as N
-use Rattle.scan.specs.declared.Heading as H
 use Rattle.scan.specs.declared.Line as L
-use Rattle.scan.specs.Numbers.{number_of, following, placed}
-use Rattle.scan.specs.Places.{place, keyed, heading_of, start_of, is_printable, plain_to, line_after, line_to, line_at, HeadingRead}
+use Rattle.scan.specs.Numbers.{number_of, following, placed, Number}
+use Rattle.scan.specs.Places.{place, keyed, heading_of, start_of, is_printable, plain_to, line_after, line_to, line_at, HeadingRead, Heading}
 use Rattle.scan.proofs.Scans.{rest_is}
+use Rattle.scan.proofs.Splits.{some_pair}
 use Rattle.scan.proofs.Wordlists.{word_number_law}
 use Rattle.scan.proofs.Readings.{row_keyed, row_malformed}
 
@@ -118,38 +117,39 @@ pub record Started (d : List ℕ) (k n : ℕ) : Type 0 where
   pub within : n < length d
   pub key : word_number (take n d) keys ≡ some k
 
-pub started : (d : List ℕ) (k n : ℕ) → H.TheVariants.Keyed k n ≡ start_of d → Started d k n
+pub started : (d : List ℕ) (k n : ℕ) → Some (k, n) ≡ start_of d → Started d k n
 unfolding start_of
 started d k n e = go (ltb (up_to 61 d) (length d)) refl (word_number (take (up_to 61 d) d) keys) refl e
   where
-    none_of : H.TheVariants.Keyed k n ≡ H.TheVariants.Malformed → Started d k n
+    none_of : ◌≡◌ {A = Heading} (Some (k, n)) None → Started d k n
     none_of q = let z : ◌≡◌ {A = ℕ} 0 1 = cc in absurd (omega arith)
 
     go : (t : Bool) → ltb (up_to 61 d) (length d) ≡ t → (o : Option ℕ) → word_number (take (up_to 61 d) d) keys ≡ o
-        → H.TheVariants.Keyed k n ≡ cond t (keyed (up_to 61 d) o) H.TheVariants.Malformed → Started d k n
+        → Some (k, n) ≡ cond t (keyed (up_to 61 d) o) None → Started d k n
     go false p o q e = none_of e
     go true p none q e = none_of e
     go true p (some j) q e =
-        let z : n ≡ up_to 61 d = cc in
-        let y : k ≡ j = cc in
+        let r = some_pair e in
+        let z : n ≡ up_to 61 d = r.1 in
+        let y : k ≡ j = r.0 in
         record { equals = z; within = omega (arith, ltb-true (up_to 61 d) (length d) p); key = rw (z, y) q }
 
 -- in a line's own bytes it is the same key
-pub start_heading : (d : List ℕ) (k n m : ℕ) → Started d k n → n < m → m ≤ length d → printable (take m d) ≡ true → heading_of (take m d) ≡ H.TheVariants.Keyed k n
+pub start_heading : (d : List ℕ) (k n m : ℕ) → Started d k n → n < m → m ≤ length d → printable (take m d) ≡ true → heading_of (take m d) ≡ Some (k, n)
 unfolding heading_of
 start_heading d k n m s lt le p =
     let u : up_to 61 (take m d) ≡ n = up_to_within 61 m d (omega (arith, s.equals)) ∙ sym s.equals in
     let l : length (take m d) ≡ m = length-take-le m d le in
     rw (p, u, l, lt-ltb n m lt, take-take n m d (omega arith), s.key) refl
 
-pub start_malformed : (d : List ℕ) (m : ℕ) → H.TheVariants.Malformed ≡ start_of d → heading_of (take m d) ≡ H.TheVariants.Malformed
+pub start_malformed : (d : List ℕ) (m : ℕ) → None ≡ start_of d → heading_of (take m d) ≡ None
 unfolding heading_of start_of
 start_malformed d m e = go (printable l) (ltb (up_to 61 l) (length l)) refl
   where
     l : List ℕ
     l = take m d
 
-    go : (t u : Bool) → ltb (up_to 61 l) (length l) ≡ u → cond (t && u) (keyed (up_to 61 l) (word_number (take (up_to 61 l) l) keys)) H.TheVariants.Malformed ≡ H.TheVariants.Malformed
+    go : (t u : Bool) → ltb (up_to 61 l) (length l) ≡ u → cond (t && u) (keyed (up_to 61 l) (word_number (take (up_to 61 l) l) keys)) None ≡ None
     go false u p = refl
     go true false p = refl
     go true true p =
@@ -160,14 +160,14 @@ start_malformed d m e = go (printable l) (ltb (up_to 61 l) (length l)) refl
         let q = rw (lt-ltb (up_to 61 d) (length d) (omega (arith, s.0))) at e in
         rw (u, w) (sym q)
 
-pub heading_read : (d : List ℕ) (r : H.Heading) → r ≡ start_of d → HeadingRead d r
-heading_read d (H.TheVariants.Keyed k n) e =
+pub heading_read : (d : List ℕ) (r : Heading) → r ≡ start_of d → HeadingRead d r
+heading_read d (Some (k, n)) e =
     let s = started d k n e in
     record { is = e; row = λ m i lt le p. (row_keyed m (take i d) k n (sym (start_heading d k n i s (omega (arith, s.equals)) le p))).1 }
-heading_read d H.TheVariants.Malformed e = record { is = e; row = λ m i lt le p. row_malformed m (take i d) (sym (start_malformed d i e)) }
+heading_read d None e = record { is = e; row = λ m i lt le p. row_malformed m (take i d) (sym (start_malformed d i e)) }
 
 -- bytes that begin with a key and `=`
-pub start_known : (d w : List ℕ) (k n : ℕ) → w ≡ take (n + 1) d → n < length d → up_to 61 w ≡ n → n < length w → word_number (take n w) keys ≡ some k → H.TheVariants.Keyed k n ≡ start_of d
+pub start_known : (d w : List ℕ) (k n : ℕ) → w ≡ take (n + 1) d → n < length d → up_to 61 w ≡ n → n < length w → word_number (take n w) keys ≡ some k → Some (k, n) ≡ start_of d
 unfolding start_of
 start_known d w k n e h u lt q =
     let v : up_to 61 (take (n + 1) d) ≡ n = ap (up_to 61) (sym e) ∙ u in
@@ -189,7 +189,7 @@ module _ (s : List ℕ) (c : Cursor) where
     line_part : (n e : ℕ) → e ≡ c.at + n → part s c.at e ≡ take n d
     line_part n e h = let z : e - c.at ≡ n = omega arith in rw (z, hd) refl
 
-    faulty : (up_to 10 d < length d → heading_of (take (up_to 10 d) d) ≡ H.TheVariants.Malformed) → L.TheVariants.Faulty ≡ line_at s c
+    faulty : (up_to 10 d < length d → heading_of (take (up_to 10 d) d) ≡ None) → L.TheVariants.Faulty ≡ line_at s c
     unfolding line_to
     faulty f = go (dec_lt (up_to 10 d) (length d))
       where
@@ -200,11 +200,11 @@ module _ (s : List ℕ) (c : Cursor) where
         go (yes h) = rw (u, lt-ltb (c.at + up_to 10 d) (length s) (omega (arith, long)), line_part (up_to 10 d) (c.at + up_to 10 d) refl, f h) refl
         go (no h) = rw (u, le-ltb (c.at + up_to 10 d) (length s) (omega (arith, long)), lt-ltb c.at (length s) lt) refl
 
-    module _ (h : H.Heading) (hh : h ≡ start_of d) where
-      pub line_unkeyed : h ≡ H.TheVariants.Malformed → L.TheVariants.Faulty ≡ line_at s c
+    module _ (h : Heading) (hh : h ≡ start_of d) where
+      pub line_unkeyed : h ≡ None → L.TheVariants.Faulty ≡ line_at s c
       line_unkeyed v = faulty (λ lt. start_malformed d (up_to 10 d) (sym v ∙ hh))
 
-      module _ (k n : ℕ) (v : h ≡ H.TheVariants.Keyed k n) where
+      module _ (k n : ℕ) (v : h ≡ Some (k, n)) where
         keyed_at : Started d k n
         keyed_at = started d k n (sym v ∙ hh)
 
@@ -245,7 +245,7 @@ module _ (s : List ℕ) (c : Cursor) where
           unfolding line_to
           line_found_law b i hi =
               let r = plain_line d (end_byte ∙ b) in
-              let q : heading_of (take (plain_to d) d) ≡ H.TheVariants.Keyed k n =
+              let q : heading_of (take (plain_to d) d) ≡ Some (k, n) =
               start_heading d k n (plain_to d) keyed_at (omega (arith, ends_at)) (omega (arith, r.1)) r.2 in
               let z : c.at + up_to 10 (drop c.at s) ≡ c.at + n + 1 + e = omega (arith, ap (up_to 10) hd, r.0, ends_at) in
               rw (z, lt-ltb (c.at + n + 1 + e) (length s) (omega (arith, r.1, ends_at, long)), line_part (plain_to d) (c.at + n + 1 + e) (omega (arith, ends_at)), q, hi) refl
@@ -253,17 +253,17 @@ module _ (s : List ℕ) (c : Cursor) where
 -- ---- the key by the first `=`
 
 module _ (d : List ℕ) (n : ℕ) (f : n ≡ 0 + up_to 61 (drop 0 d)) where
-  pub key_none : length d ≤ n → H.TheVariants.Malformed ≡ start_of d
+  pub key_none : length d ≤ n → None ≡ start_of d
   unfolding start_of
   key_none h = rw (le-ltb (up_to 61 d) (length d) (omega arith)) refl
 
-  module _ (q : List ℕ) (pq : q ≡ take n d) (r : N.Number) (e : number_of r ≡ word_number q keys) (h : n < length d) where
+  module _ (q : List ℕ) (pq : q ≡ take n d) (r : Number) (e : number_of r ≡ word_number q keys) (h : n < length d) where
     start_is : start_of d ≡ keyed n (number_of r)
     unfolding start_of
     start_is = let m : up_to 61 d ≡ n = omega arith in rw (m, lt-ltb n (length d) h, ← pq, ← e) refl
 
-    pub key_keyed : (k : ℕ) → r ≡ N.TheVariants.Value k → H.TheVariants.Keyed k n ≡ start_of d
-    key_keyed k v = sym (start_is ∙ ap (λ (x : N.Number). keyed n (number_of x)) v)
+    pub key_keyed : (k : ℕ) → r ≡ Some k → Some (k, n) ≡ start_of d
+    key_keyed k v = sym (start_is ∙ ap (λ (x : Number). keyed n (number_of x)) v)
 
-    pub key_unkeyed : r ≡ N.TheVariants.Refused → H.TheVariants.Malformed ≡ start_of d
-    key_unkeyed v = sym (start_is ∙ ap (λ (x : N.Number). keyed n (number_of x)) v)
+    pub key_unkeyed : r ≡ None → None ≡ start_of d
+    key_unkeyed v = sym (start_is ∙ ap (λ (x : Number). keyed n (number_of x)) v)

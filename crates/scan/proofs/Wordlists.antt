@@ -1,5 +1,5 @@
 -- A word among others: the turns of the search, and the lists of the format. Assumes nothing.
-use Rattle.std.proofs.Common.{◌≡◌, ℕ, zero, suc, ◌+◌, ◌-◌, ◌<◌, ◌≤◌, Bool, true, false, cond, ltb, List, [], ◌∷◌, map, length, drop, sym, refl, ap, ◌∙◌, arith, le-ltb, lt-ltb}
+use Rattle.std.proofs.Common.{◌≡◌, ℕ, zero, suc, ◌+◌, ◌-◌, ◌<◌, ◌≤◌, Bool, true, false, cond, ltb, List, [], ◌∷◌, map, length, drop, sym, refl, ap, ◌∙◌, arith, le-ltb, lt-ltb, Some, None, ltb-true, ltb-false}
 use mathlib.Core.Option.{Option, none, some}
 use Prim.Native.String.{String}
 use lib.Dec.{leb-suc-suc}
@@ -8,8 +8,7 @@ use Rattle.words.specs.Log.{part}
 use Rattle.sheet.specs.Ascii.{ascii}
 use Rattle.sheet.specs.Bytes.{up_to, split, same}
 use Rattle.sheet.specs.Forms.{keys, forms, place_in, word_number, tag_of, TYPE, VALUE, NODE, first_type, first_value, first_node, no_tag}
-use Rattle.scan.specs.declared.Number as N
-use Rattle.scan.specs.Numbers.{number_of, following, placed, form_after}
+use Rattle.scan.specs.Numbers.{number_of, following, placed, form_after, Number, known_form}
 use Rattle.scan.specs.Places.{parts_from}
 use Rattle.scan.proofs.Splits.{split_at, from_on, from_end}
 
@@ -43,14 +42,14 @@ module _ (w l : List ℕ) (i a e : ℕ) (k : Searching w l i a) (f : e ≡ a + u
       ap (placed w) (split_at 44 l a e k.near f)
       ∙ ap (λ (t : Bool). cond t (some 0) (following (placed w (parts_from 44 l (e + 1))))) (ap (same w) (sym p) ∙ sym s)
 
-  pub searching_hit : r ≡ true → number_of (N.TheVariants.Value i) ≡ placed w (split 44 l)
+  pub searching_hit : r ≡ true → number_of (Some i) ≡ placed w (split 44 l)
   unfolding later
   searching_hit t =
       let z : i + 0 ≡ i = omega arith in
       let g : placed w (split 44 (drop a l)) ≡ some 0 = here ∙ rw t in
       sym (k.left ∙ ap (later i) g ∙ ap some z)
 
-  pub searching_end : r ≡ false → length l ≤ e → number_of N.TheVariants.Refused ≡ placed w (split 44 l)
+  pub searching_end : r ≡ false → length l ≤ e → number_of None ≡ placed w (split 44 l)
   unfolding later
   searching_end t h =
       let g : placed w (split 44 (drop a l)) ≡ none = here ∙ rw (t, from_end 44 l (e + 1) (omega arith)) in
@@ -81,7 +80,7 @@ word_number_law w (x ∷ ws) = go (same w (ascii x)) (word_number_law w ws)
     go false h = rw (← h, leb-suc-suc (suc (place_in w ws)) (length ws)) (by_test (ltb (place_in w ws) (length ws)))
 
 -- a list of words with commas between them
-pub words_are : (w : List ℕ) (ws : List String) (l : List ℕ) (r : N.Number) → map ascii ws ≡ split 44 l → number_of r ≡ placed w (split 44 l) → number_of r ≡ word_number w ws
+pub words_are : (w : List ℕ) (ws : List String) (l : List ℕ) (r : Number) → map ascii ws ≡ split 44 l → number_of r ≡ placed w (split 44 l) → number_of r ≡ word_number w ws
 words_are w ws l r e h = h ∙ ap (placed w) (sym e) ∙ sym (word_number_law w ws)
 
 -- a place in a list is below its length
@@ -103,7 +102,7 @@ keys_are : map ascii keys ≡ split 44 key_bytes
 unfolding keys
 keys_are = refl
 
-pub key_number : (w : List ℕ) (r : N.Number) → number_of r ≡ placed w (split 44 key_bytes) → number_of r ≡ word_number w keys
+pub key_number : (w : List ℕ) (r : Number) → number_of r ≡ placed w (split 44 key_bytes) → number_of r ≡ word_number w keys
 key_number w r h = words_are w keys key_bytes r keys_are h
 
 -- ---- the constructors of types, values and nodes
@@ -140,7 +139,7 @@ abbrev after : ℕ → List String → ℕ
 after first ns = no_tag - (first + length ns)
 
 -- a table with the forms of one key from `first` on
-form_is : (w : List ℕ) (ns : List String) (l : List ℕ) (r : N.Number) (first rest t tag : ℕ) → map ascii ns ≡ split 44 l → number_of r ≡ placed w (split 44 l) → first + (length ns + rest) ≡ no_tag
+form_is : (w : List ℕ) (ns : List String) (l : List ℕ) (r : Number) (first rest t tag : ℕ) → map ascii ns ≡ split 44 l → number_of r ≡ placed w (split 44 l) → first + (length ns + rest) ≡ no_tag
     → t ≡ form_after first (number_of r) → tag ≡ sucs first (run w ns rest) → t ≡ tag
 unfolding past
 form_is w ns l r first rest t tag e h n et eg = go (number_of r) (h ∙ ap (placed w) (sym e)) et
@@ -171,8 +170,9 @@ type_count : first_type + (length type_names + after first_type type_names) ≡ 
 unfolding type_names
 type_count = refl
 
-pub type_form : (w : List ℕ) (r : N.Number) (t : ℕ) → number_of r ≡ placed w (split 44 type_bytes) → t ≡ form_after first_type (number_of r) → t ≡ tag_of TYPE w
-type_form w r t h e = form_is w type_names type_bytes r first_type (after first_type type_names) t (tag_of TYPE w) type_names_law h type_count e (type_tag w)
+pub type_form : (w : List ℕ) (r : Number) → number_of r ≡ placed w (split 44 type_bytes) → known_form (form_after first_type (number_of r)) ≡ known_form (tag_of TYPE w)
+type_form w r h =
+    ap known_form (form_is w type_names type_bytes r first_type (after first_type type_names) (form_after first_type (number_of r)) (tag_of TYPE w) type_names_law h type_count refl (type_tag w))
 
 value_names : List String
 value_names = "bool" ∷ "long" ∷ "text" ∷ "entity" ∷ "set" ∷ "record" ∷ []
@@ -192,8 +192,9 @@ value_count : first_value + (length value_names + after first_value value_names)
 unfolding value_names
 value_count = refl
 
-pub value_form : (w : List ℕ) (r : N.Number) (t : ℕ) → number_of r ≡ placed w (split 44 value_bytes) → t ≡ form_after first_value (number_of r) → t ≡ tag_of VALUE w
-value_form w r t h e = form_is w value_names value_bytes r first_value (after first_value value_names) t (tag_of VALUE w) value_names_law h value_count e (value_tag w)
+pub value_form : (w : List ℕ) (r : Number) → number_of r ≡ placed w (split 44 value_bytes) → known_form (form_after first_value (number_of r)) ≡ known_form (tag_of VALUE w)
+value_form w r h =
+    ap known_form (form_is w value_names value_bytes r first_value (after first_value value_names) (form_after first_value (number_of r)) (tag_of VALUE w) value_names_law h value_count refl (value_tag w))
 
 node_names : List String
 node_names =
@@ -215,19 +216,36 @@ node_count : first_node + (length node_names + after first_node node_names) ≡ 
 unfolding node_names
 node_count = refl
 
-pub node_form : (w : List ℕ) (r : N.Number) (t : ℕ) → number_of r ≡ placed w (split 44 node_bytes) → t ≡ form_after first_node (number_of r) → t ≡ tag_of NODE w
-node_form w r t h e = form_is w node_names node_bytes r first_node (after first_node node_names) t (tag_of NODE w) node_names_law h node_count e (node_tag w)
+pub node_form : (w : List ℕ) (r : Number) → number_of r ≡ placed w (split 44 node_bytes) → known_form (form_after first_node (number_of r)) ≡ known_form (tag_of NODE w)
+node_form w r h =
+    ap known_form (form_is w node_names node_bytes r first_node (after first_node node_names) (form_after first_node (number_of r)) (tag_of NODE w) node_names_law h node_count refl (node_tag w))
 
 -- the answers of the code
-module _ (first : ℕ) (r : N.Number) where
-  pub after_value : (p : ℕ) → r ≡ N.TheVariants.Value p → p < no_tag - first → first + p ≡ form_after first (number_of r)
-  after_value p v h = rw v (rw (lt-ltb p (no_tag - first) h) refl)
+module _ (first : ℕ) (r : Number) where
+  pub after_value : (p : ℕ) → r ≡ Some p → p < no_tag - first → Some (first + p) ≡ known_form (form_after first (number_of r))
+  after_value p v h = rw v (rw (lt-ltb p (no_tag - first) h) (rw (lt-ltb (first + p) no_tag (omega arith)) refl))
 
-  pub after_past : (p : ℕ) → r ≡ N.TheVariants.Value p → no_tag - first ≤ p → no_tag ≡ form_after first (number_of r)
+  pub after_past : (p : ℕ) → r ≡ Some p → no_tag - first ≤ p → None ≡ known_form (form_after first (number_of r))
   after_past p v h = rw v (rw (le-ltb p (no_tag - first) h) refl)
 
-  pub after_most : (p : ℕ) → r ≡ N.TheVariants.Value p → no_tag ≤ first → no_tag ≡ form_after first (number_of r)
+  pub after_most : (p : ℕ) → r ≡ Some p → no_tag ≤ first → None ≡ known_form (form_after first (number_of r))
   after_most p v h = after_past p v (omega arith)
 
-  pub after_none : r ≡ N.TheVariants.Refused → no_tag ≡ form_after first (number_of r)
-  after_none v = rw v
+  pub after_none : r ≡ None → None ≡ known_form (form_after first (number_of r))
+  after_none v = rw v refl
+
+-- ---- a form that is known
+
+pub known_some : (t n : ℕ) → Some t ≡ known_form n → (t ≡ n) × (n < no_tag)
+known_some t n e = go (ltb n no_tag) refl e
+  where
+    go : (b : Bool) → ltb n no_tag ≡ b → Some t ≡ cond b (Some n) None → (t ≡ n) × (n < no_tag)
+    go true p q = let z : t ≡ n = cc in (z, ltb-true n no_tag p)
+    go false p q = let z : ◌≡◌ {A = ℕ} 0 1 = cc in absurd (omega arith)
+
+pub known_none : (n : ℕ) → None ≡ known_form n → no_tag ≤ n
+known_none n e = go (ltb n no_tag) refl e
+  where
+    go : (b : Bool) → ltb n no_tag ≡ b → None ≡ cond b (Some n) None → no_tag ≤ n
+    go true p q = let z : ◌≡◌ {A = ℕ} 0 1 = cc in absurd (omega arith)
+    go false p q = ltb-false n no_tag p

@@ -1,28 +1,36 @@
 -- What an answer of the readers stands for, and the place of a word among others.
-use Rattle.std.specs.Prelude.{◌≡◌, ℕ, suc, ◌+◌, ◌-◌, ◌*◌, ◌^◌, ◌<◌, Bool, true, cond, ◌&&◌, List, [], ◌∷◌, ◌++◌, length, take, drop, nat_le, nat_lt, slice_index}
-use Rattle.std.proofs.Math.Option.{Option, none, some}
+use Rattle.std.specs.Prelude.{◌≡◌, ℕ, suc, ◌+◌, ◌-◌, ◌*◌, ◌^◌, ◌<◌, Bool, true, cond, ◌&&◌, List, [], ◌∷◌, ◌++◌, length, take, drop, nat_le, nat_lt, slice_index, Option, Some, None}
+use Rattle.std.proofs.Math.Option as Math
+use Rattle.std.proofs.Math.Option.{none, some}
 use Rattle.sheet.specs.Bytes.{same}
 use Rattle.sheet.specs.Forms.{no_tag}
-use Rattle.scan.specs.declared.Number as N
+
+-- a number that was read, or nothing where the bytes are malformed
+abbrev pub Number : Type 0
+Number = Option ℕ
 
 -- the number that was read; none, which is refusal 3, where the bytes are malformed
-abbrev pub number_of : N.Number → Option ℕ
-number_of (N.TheVariants.Value n) = some n
-number_of N.TheVariants.Refused = none
+abbrev pub number_of : Number → Math.Option ℕ
+number_of (Some n) = some n
+number_of None = none
 
-abbrev pub following : Option ℕ → Option ℕ
+abbrev pub following : Math.Option ℕ → Math.Option ℕ
 following none = none
 following (some n) = some (suc n)
 
 -- the place of a word among others, counted from 0
-abbrev pub placed : List ℕ → List (List ℕ) → Option ℕ
+abbrev pub placed : List ℕ → List (List ℕ) → Math.Option ℕ
 placed w [] = none
 placed w (x ∷ l) = cond (same w x) (some 0) (following (placed w l))
 
 -- the form that stands so many places after a key's first; the number past the table's end for none
-abbrev pub form_after : ℕ → Option ℕ → ℕ
+abbrev pub form_after : ℕ → Math.Option ℕ → ℕ
 form_after first none = no_tag
 form_after first (some p) = cond (nat_lt p (no_tag - first)) (first + p) no_tag
+
+-- a form by its number; none for the number past the table's end
+abbrev pub known_form : ℕ → Option ℕ
+known_form t = cond (nat_lt t no_tag) (Some t) None
 
 -- ---- a word as one number
 

@@ -28,10 +28,8 @@ fn mixed_words(line: &[u32]) -> u32
     ensures { result ≡ mixed_on (tag line.now) (drop 1 line.now) }
 {
     let mut sum = tag(line);
-    let mut i = 1;
-    while i < line.len() {
+    for i in 1..line.len() {
         sum = mixed(sum, line[i]);
-        i += 1;
     }
     sum
 }
@@ -41,10 +39,8 @@ fn mixed_bytes(tag: u32, text: &[u8]) -> u32
     ensures { result ≡ mixed_on tag text.now }
 {
     let mut sum = tag;
-    let mut i = 0;
-    while i < text.len() {
-        sum = mixed(sum, text[i] as u32);
-        i += 1;
+    for &byte in text {
+        sum = mixed(sum, byte as u32);
     }
     sum
 }

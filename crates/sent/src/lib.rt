@@ -4,12 +4,14 @@
 
 ghost use Rattle.std.specs.Prelude.{◌≡◌, ◌≤◌, length};
 ghost use Rattle.sheet.specs.Forms.{partial, complete};
-ghost use Rattle.response.specs.Naming.{why_in};
+ghost use Rattle.print.specs.Written.{Written};
+ghost use Rattle.response.specs.Naming.{name_of, why_in};
 ghost use Rattle.response.specs.Printed.{complete_bytes, partial_bytes};
 ghost use Rattle.response.specs.Runs.{Sends, Prints, Runs};
 
 use interpret::{CLASSES, ROOTS};
-use response::{answer, why_of};
+use print::Out;
+use response::{Policies, answer};
 use table::{RUN, count};
 use words::{ROOM, cut};
 
@@ -29,27 +31,52 @@ const MOST_HEAD: usize = 230;
 // and no line of a policy more than this.
 const MOST_POLICY: usize = 63;
 
+// A complete answer at the start of a buffer, and its length.
+fn print_complete(buffer: &mut [u8], policies: &Policies, why: Option<u32>) -> usize
+    ensures { Written buffer.old 0 (complete_bytes (name_of policies.now.rows.now why) policies.now.rows.now policies.now.classes.now) buffer.new result }
+{
+    let mut out = Out::new(buffer);
+    answer::complete(&mut out, policies, why);
+    out.len()
+}
+
+// A partial answer, likewise.
+fn print_partial(
+    buffer: &mut [u8],
+    policies: &Policies,
+    log: &[u32],
+    roots: &[u32],
+    why: Option<u32>,
+) -> usize
+    ensures { Written buffer.old 0 (partial_bytes (name_of policies.now.rows.now why) policies.now.rows.now log.now policies.now.classes.now roots.now) buffer.new result }
+{
+    let mut out = Out::new(buffer);
+    answer::partial(&mut out, policies, log, roots, why);
+    out.len()
+}
+
 // A complete answer printed, where the buffer has room for it: counted first where it may have none. Its name is found once, for the counting and for
 // the printing.
 pub fn send_complete(out: &mut [u8], rows: &[u32], classes: &[u32]) -> Sent
     ensures { Sends (complete_bytes (why_in rows.now classes.now) rows.now classes.now) out.old result.number result.length out.new }
 {
-    let policy = why_of(rows, classes);
+    let policies = Policies { rows, classes };
+    let why = policies.why();
     if out.len() >= MOST_HEAD + MOST_POLICY * count(rows, RUN) as usize {
-        let n = answer::complete(out, 0, rows, classes, policy);
+        let n = print_complete(out, &policies, why);
         return Sent {
             number: 0,
             length: n,
         };
     }
-    let k = answer::complete(&mut out[..0], 0, rows, classes, policy);
+    let k = print_complete(&mut out[..0], &policies, why);
     if out.len() < k {
         return Sent {
             number: 10,
             length: k,
         };
     }
-    answer::complete(out, 0, rows, classes, policy);
+    print_complete(out, &policies, why);
     Sent {
         number: 0,
         length: k,
@@ -57,11 +84,12 @@ pub fn send_complete(out: &mut [u8], rows: &[u32], classes: &[u32]) -> Sent
 }
 
 // A partial answer printed, where the buffer is known to have room for it.
-fn print_partial(out: &mut [u8], rows: &[u32], log: &[u32], classes: &[u32], roots: &[u32]) -> Sent
+fn fill_partial(out: &mut [u8], rows: &[u32], log: &[u32], classes: &[u32], roots: &[u32]) -> Sent
     ensures { Prints (partial_bytes (why_in rows.now classes.now) rows.now log.now classes.now roots.now) out.old result.number result.length out.new }
 {
-    let policy = why_of(rows, classes);
-    let n = answer::partial(out, 0, rows, log, classes, roots, policy);
+    let policies = Policies { rows, classes };
+    let why = policies.why();
+    let n = print_partial(out, &policies, log, roots, why);
     Sent {
         number: 0,
         length: n,
@@ -73,15 +101,16 @@ fn send_partial(out: &mut [u8], rows: &[u32], log: &[u32], classes: &[u32], root
     requires { (length rows.now ≤ 16384) × (length log.now ≤ 16384) }
     ensures { Sends (partial_bytes (why_in rows.now classes.now) rows.now log.now classes.now roots.now) out.old result.number result.length out.new }
 {
-    let policy = why_of(rows, classes);
-    let n = answer::partial(&mut out[..0], 0, rows, log, classes, roots, policy);
+    let policies = Policies { rows, classes };
+    let why = policies.why();
+    let n = print_partial(&mut out[..0], &policies, log, roots, why);
     if out.len() < n {
         return Sent {
             number: 10,
             length: n,
         };
     }
-    answer::partial(out, 0, rows, log, classes, roots, policy);
+    print_partial(out, &policies, log, roots, why);
     Sent {
         number: 0,
         length: n,
@@ -109,7 +138,7 @@ pub fn answer_partial(sheet: &[u8], rows: &mut [u32], log: &mut [u32], out: &mut
     let roots = cut(log, ROOTS, ROOM);
     if out.len() >= MOST_ANSWER {
         if sheet.len() <= ROOM {
-            return print_partial(out, rows, left, classes, roots);
+            return fill_partial(out, rows, left, classes, roots);
         }
     }
     send_partial(out, rows, left, classes, roots)

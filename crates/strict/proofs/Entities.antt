@@ -3,7 +3,7 @@ use mathlib.Core.Path.{◌≡◌, refl, sym, ap, ◌∙◌}
 use mathlib.Core.Bool.{Bool, true, false, not, cond, ◌&&◌}
 use mathlib.Core.Option.{Option, none, some}
 use mathlib.Core.List.{List, [], ◌∷◌}
-use Prim.Native.Nat.{ℕ, ◌+◌, ◌≤◌, ◌<◌}
+use Prim.Native.Nat.{ℕ, ◌+◌, ◌<◌}
 use native.Mathlib.Omega.{arith}
 use borrow.Author.Tests.{not-true, not-false}
 use lib.Dec.{eqb}
@@ -22,43 +22,16 @@ use Rattle.value.specs.Lines.{value_lines}
 use Rattle.value.specs.Shapes.{shape_of, shape_row}
 use Rattle.value.specs.declared.Shape.{Shape}
 use Rattle.value.specs.declared.Shape.TheVariants.{Bool as Boolˢ, Long, Text, Entity, Set, Record}
-use Rattle.value.proofs.Lists.{Going, uncons, spent}
+use Rattle.value.proofs.Lists.{Going, uncons}
 use Rattle.strict.specs.Gives.{out_of, mode_of, env_in}
 use Rattle.lookup.specs.Lookups.{values, value_in, ATTRIBUTES, TAGS, state_in, line_in, line_by, env_by, part_of, part_of_line, part_in, part_by, look_found, look_row, look_in, look_over, look_value, look_by}
 use Rattle.strict.specs.Entities.{taken_of, present_of, get_out, has_out, tag_look, gettag_out, hastag_out, is_rent_at, in_unknown_out, in_list_out, in_out}
 use Rattle.strict.specs.declared.Given.{Given}
-use Rattle.strict.specs.declared.Given.TheVariants.{Bool as Boolᵍ, Fails, Stays, Old}
+use Rattle.strict.specs.declared.Given.TheVariants.{Bool as Boolᵍ, Fails, Stays}
 use Rattle.lookup.specs.declared.Part.{Part}
 use Rattle.lookup.specs.declared.Look.{Look}
 use Rattle.lookup.specs.declared.Look.TheVariants.{At as Atˡ, Missing, Unknown as Unknownˡ, Bad}
 use Rattle.lookup.proofs.Shapes.{value_shape, other_text, other_entity}
-
--- ---- what was found
-
-module _ (l : Look) where
-  pub taken_at : (x : ℕ) → l ≡ Atˡ x → Old x ≡ taken_of l
-  taken_at x e = rw e
-
-  pub taken_missing : l ≡ Missing → Fails ≡ taken_of l
-  taken_missing e = rw e
-
-  pub taken_unknown : (k : ℕ) → l ≡ Unknownˡ k → Stays ≡ taken_of l
-  taken_unknown k e = rw e
-
-  pub taken_bad : l ≡ Bad → Fails ≡ taken_of l
-  taken_bad e = rw e
-
-  pub present_at : (x : ℕ) → l ≡ Atˡ x → Boolᵍ true ≡ present_of l
-  present_at x e = rw e
-
-  pub present_missing : l ≡ Missing → Boolᵍ false ≡ present_of l
-  present_missing e = rw e
-
-  pub present_unknown : (k : ℕ) → l ≡ Unknownˡ k → Stays ≡ present_of l
-  present_unknown k e = rw e
-
-  pub present_bad : l ≡ Bad → Fails ≡ present_of l
-  present_bad e = rw e
 
 -- ---- known parts: what stands for one, where e does for nothing at all
 
@@ -235,9 +208,6 @@ module _ (m : ℕ) (l : List ℕ) (b : Bool) (eb : b ≡ mem_n m l) where
       go (x ∷ k) y = refl
 
 module _ (a l : List ℕ) (i : ℕ) (g : Going (all_rent (values a) l) (all_rent (values a) (drop i l)) i (length l)) where
-  pub ents_end : length l ≤ i → true ≡ all_rent (values a) l
-  ents_end h = sym (g.left ∙ ap (all_rent (values a)) (spent l i h))
-
   module _ (b : Bool) (h : i < length l) (e : b ≡ is_rent_at a (get_or l i 0)) where
     step : all_rent (values a) (drop i l) ≡ (b && all_rent (values a) (drop (i + 1) l))
     unfolding is_rent_at value_in

@@ -14,8 +14,7 @@ use Rattle.sheet.specs.Forms.{VALUE, ENTITY}
 use Rattle.sheet.specs.Content.{line_given, known_above, map_some}
 use Rattle.sheet.specs.Parents.{ancestors, unknown_above}
 use Rattle.table.specs.Layout.{held, lines_held, rows_of}
-use Rattle.value.specs.declared.Entry.{Entry}
-use Rattle.value.specs.declared.Entry.TheVariants.{At, Nothing}
+use Rattle.std.specs.Prelude.{Option as Maybe, Some, None}
 use Rattle.reach.specs.Marks.{LINES, HIDDEN, line_rows, Found, any_met}
 use Rattle.reach.proofs.Asking.{meets_is, open_is}
 use Rattle.reach.proofs.Steps.{any_none}
@@ -104,8 +103,8 @@ module _ (c : Bool) (m : ℕ) (l : List ℕ) where
   unfolding in_unlisted_out
   unlisted_partial e g h = h ∙ sym (ap (λ (x : Bool). cond x (truly (mem_n m l)) (in_unknown_out m l)) e)
 
-module _ (c : Bool) (a : List ℕ) (m k t : ℕ) (l : List ℕ) (x : Entry) (ex : line_at (rows_of a ENTITY) x ≡ line_by a m k t) where
-  pub list_none : x ≡ Nothing → (g : Given) → out_of g ≡ in_unlisted_out c m l → out_of g ≡ in_list_out c a m k t l
+module _ (c : Bool) (a : List ℕ) (m k t : ℕ) (l : List ℕ) (x : Maybe ℕ) (ex : line_at (rows_of a ENTITY) x ≡ line_by a m k t) where
+  pub list_none : x ≡ None → (g : Given) → out_of g ≡ in_unlisted_out c m l → out_of g ≡ in_list_out c a m k t l
   unfolding in_list_out in_unlisted_out in_unknown_out
   list_none z g e = e ∙ sym (ap (λ (o : Option Give). n_in (values a) m o l) (ancestors_by c a m k t none (sym ex ∙ ap (line_at (rows_of a ENTITY)) z)) ∙ go c)
     where
@@ -113,7 +112,7 @@ module _ (c : Bool) (a : List ℕ) (m k t : ℕ) (l : List ℕ) (x : Entry) (ex 
       go true = ap truly (ap (λ (y : Bool). mem_n m l || y) (any_none l) ∙ or_end (mem_n m l))
       go false = refl
 
-  pub list_line : (i : ℕ) → x ≡ At i → (r : List ℕ) (v : ℕ) → r ≡ get_or (rows_of a ENTITY) i [] → v ≡ get_or r 1 0 → (g : Given) → out_of g ≡ in_line_out c a m v l → out_of g ≡ in_list_out c a m k t l
+  pub list_line : (i : ℕ) → x ≡ Some i → (r : List ℕ) (v : ℕ) → r ≡ get_or (rows_of a ENTITY) i [] → v ≡ get_or r 1 0 → (g : Given) → out_of g ≡ in_line_out c a m v l → out_of g ≡ in_list_out c a m k t l
   unfolding in_list_out in_line_out
   list_line i z r v er ev g e = e ∙ ap (λ (y : ℕ). n_in (values a) m (above_in c a y) l) (ev ∙ ap (λ (q : List ℕ). get_or q 1 0) er)
       ∙ sym (ap (λ (o : Option Give). n_in (values a) m o l) (ancestors_by c a m k t (some (get_or (rows_of a ENTITY) i [])) (sym ex ∙ ap (line_at (rows_of a ENTITY)) z)))

@@ -22,7 +22,7 @@ use Rattle.sheet.specs.Forms.{items}
 use Rattle.sheet.specs.Content.{pattern_of}
 use Rattle.table.specs.Layout.{text_at}
 use Rattle.long.specs.Ranged.{number_of, ranged}
-use Rattle.long.specs.declared.Checked.{Checked}
+use Rattle.std.specs.Prelude.{Option}
 use Rattle.value.specs.Lines.{value_lines}
 use Rattle.value.specs.Shapes.{shape_of}
 use Rattle.value.specs.declared.Shape.{Shape}
@@ -30,7 +30,7 @@ use Rattle.value.specs.declared.Shape.TheVariants.{Bool as Boolˢ, Long, Text, E
 use Rattle.strict.specs.Gives.{out_of, long_out, longs_out, not_out, neg_out, empty_out, is_out, like_out, arith_out, contains_out, all_out, any_out}
 use Rattle.lookup.specs.Lookups.{value_in}
 use Rattle.strict.specs.declared.Given.{Given}
-use Rattle.strict.specs.declared.Given.TheVariants.{Bool as Boolᵍ, Long as Longᵍ, Fails}
+use Rattle.strict.specs.declared.Given.TheVariants.{Bool as Boolᵍ, Fails}
 use Rattle.lookup.proofs.Shapes.{value_shape, other_bool, other_long, other_text, other_entity, other_set}
 
 -- ---- longs in range
@@ -43,10 +43,7 @@ in_range_law z = go (in_range z)
     go true = refl
     go false = refl
 
-pub checked_in : (c : Checked) (w : ℕ) → c ≡ Checked.Value w → out_of (Longᵍ w) ≡ long_out (number_of c)
-checked_in c w e = rw e
-
-pub arith_out_law : (g : Given) (c : Checked) (z : ℤ) → number_of c ≡ ranged z → out_of g ≡ long_out (number_of c) → out_of g ≡ nlong z
+pub arith_out_law : (g : Given) (c : Option ℕ) (z : ℤ) → number_of c ≡ ranged z → out_of g ≡ long_out (number_of c) → out_of g ≡ nlong z
 arith_out_law g c z e h = h ∙ ap long_out e ∙ in_range_law z
 
 module _ (op x y : ℕ) where
@@ -58,15 +55,15 @@ module _ (op x y : ℕ) where
   unfolding longs_out
   arith_le b e h = rw (e, h)
 
-  pub arith_add : (g : Given) (c : Checked) → op ≡ ADD → number_of c ≡ ranged (long_at x +ℤ long_at y) → out_of g ≡ long_out (number_of c) → out_of g ≡ longs_out op (long_at x) (long_at y)
+  pub arith_add : (g : Given) (c : Option ℕ) → op ≡ ADD → number_of c ≡ ranged (long_at x +ℤ long_at y) → out_of g ≡ long_out (number_of c) → out_of g ≡ longs_out op (long_at x) (long_at y)
   unfolding longs_out
   arith_add g c e p h = rw e (arith_out_law g c (long_at x +ℤ long_at y) p h)
 
-  pub arith_sub : (g : Given) (c : Checked) → op ≡ SUB → number_of c ≡ ranged (long_at x -ℤ long_at y) → out_of g ≡ long_out (number_of c) → out_of g ≡ longs_out op (long_at x) (long_at y)
+  pub arith_sub : (g : Given) (c : Option ℕ) → op ≡ SUB → number_of c ≡ ranged (long_at x -ℤ long_at y) → out_of g ≡ long_out (number_of c) → out_of g ≡ longs_out op (long_at x) (long_at y)
   unfolding longs_out
   arith_sub g c e p h = rw e (arith_out_law g c (long_at x -ℤ long_at y) p h)
 
-  pub arith_mul : (g : Given) (c : Checked) → (op ≡ LT → ⊥) → (op ≡ LE → ⊥) → (op ≡ ADD → ⊥) → (op ≡ SUB → ⊥)
+  pub arith_mul : (g : Given) (c : Option ℕ) → (op ≡ LT → ⊥) → (op ≡ LE → ⊥) → (op ≡ ADD → ⊥) → (op ≡ SUB → ⊥)
       → number_of c ≡ ranged (long_at x *ℤ long_at y) → out_of g ≡ long_out (number_of c) → out_of g ≡ longs_out op (long_at x) (long_at y)
   unfolding longs_out
   arith_mul g c i j k l p h = rw (ne_eqb op LT i, ne_eqb op LE j, ne_eqb op ADD k, ne_eqb op SUB l) (arith_out_law g c (long_at x *ℤ long_at y) p h)
@@ -86,7 +83,7 @@ module _ (a : List ℕ) (v : ℕ) (q : List ℕ) (s : Shape) (eq : q ≡ get_or 
   unfolding not_out
   not_other h = rw (value_shape a v q s eq es) (sym (other_bool fails (items q) s (λ c. truly (not c)) h))
 
-  pub neg_is : (x : ℕ) (g : Given) (c : Checked) → s ≡ Long x → number_of c ≡ ranged (neg_ℤ (long_at x)) → out_of g ≡ long_out (number_of c) → out_of g ≡ neg_out (value_in a v)
+  pub neg_is : (x : ℕ) (g : Given) (c : Option ℕ) → s ≡ Long x → number_of c ≡ ranged (neg_ℤ (long_at x)) → out_of g ≡ long_out (number_of c) → out_of g ≡ neg_out (value_in a v)
   unfolding neg_out
   neg_is x g c e p h = rw (value_shape a v q s eq es, e) (arith_out_law g c (neg_ℤ (long_at x)) p h)
 

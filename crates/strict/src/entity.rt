@@ -13,8 +13,8 @@ use crate::Given;
 use forms::ENTITY;
 use lookup::{Look, TAGS, line_of, look_attr, look_in, part_of};
 use reach::{MARKS, VALUES, meets_above, open_above, reach};
-use table::{item, row};
-use value::{Entry, Shape, contains, members, row_of, shape_of};
+use table::{item, items, row};
+use value::{Shape, contains, row_of, shape_of};
 
 // What was found; an error where it is missing.
 fn taken(look: Look) -> Given
@@ -98,17 +98,12 @@ fn is_one(rows: &[u32], value: u32) -> bool
 fn all_entities(rows: &[u32], list: &[u32]) -> bool
     ensures { result ≡ all_rent (values rows.now) list.now }
 {
-    let mut i = 0;
-    loop {
-        if i >= list.len() {
-            break true;
-        }
-        let v = list[i];
+    for &v in list {
         if !is_one(rows, v) {
-            break false;
+            return false;
         }
-        i += 1;
     }
+    true
 }
 
 // Whether an entity whose ancestors are unknown is among these.
@@ -199,7 +194,7 @@ fn in_unlisted(complete: bool, value: u32, list: &[u32]) -> Given
 fn in_list(rows: &[u32], complete: bool, value: u32, kind: u32, text: u32, list: &[u32]) -> Given
     ensures { out_of result ≡ in_list_out complete rows.now value kind text list.now }
 {
-    let Entry::At(i) = line_of(rows, value, kind, text) else {
+    let Some(i) = line_of(rows, value, kind, text) else {
         return in_unlisted(complete, value, list);
     };
     in_line(rows, complete, value, item(row(rows, ENTITY, i), 1), list)
@@ -218,7 +213,7 @@ pub fn in_of(rows: &[u32], complete: bool, left: u32, right: u32) -> Given
     match d {
         Shape::Entity(_, _) => in_list(rows, complete, left, k, t, &[right]),
         Shape::Set => {
-            let l = members(q);
+            let l = items(q);
             if !all_entities(rows, l) {
                 return Given::Fails;
             }

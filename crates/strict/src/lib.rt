@@ -13,9 +13,8 @@ ghost use Rattle.lookup.specs.Lookups.{value_in};
 
 use forms::{ADD, LE, LT, SUB};
 use like::like;
-use long::Checked;
-use table::text;
-use value::{Shape, contains, covers, meets, members, row_of, shape_of};
+use table::{items, text};
+use value::{Shape, contains, covers, meets, row_of, shape_of};
 
 // What an operation gives: a bool, a long as its number plus 2^63, a value that has a number, an error, or nothing yet.
 #[derive(Clone, Copy)]
@@ -39,13 +38,10 @@ pub fn not_of(rows: &[u32], value: u32) -> Given
 }
 
 // A long, if it is in range.
-fn checked(c: Checked) -> Given
+fn checked(c: Option<u64>) -> Given
     ensures { out_of result ≡ long_out (number_of c) }
 {
-    let Checked::Value(w) = c else {
-        return Given::Fails;
-    };
-    Given::Long(w)
+    c.map_or(Given::Fails, Given::Long)
 }
 
 // The negative.
@@ -68,7 +64,7 @@ pub fn empty_of(rows: &[u32], value: u32) -> Given
     let Shape::Set = s else {
         return Given::Fails;
     };
-    Given::Bool(members(r).len() == 0)
+    Given::Bool(items(r).len() == 0)
 }
 
 // Whether an entity is of this kind.
@@ -137,7 +133,7 @@ pub fn contains_of(rows: &[u32], left: u32, right: u32) -> Given
     let Shape::Set = s else {
         return Given::Fails;
     };
-    Given::Bool(contains(members(r), right))
+    Given::Bool(contains(items(r), right))
 }
 
 // Whether a set has all members of another.
@@ -154,7 +150,7 @@ pub fn all_of(rows: &[u32], left: u32, right: u32) -> Given
     let Shape::Set = t else {
         return Given::Fails;
     };
-    Given::Bool(covers(members(q), members(r)))
+    Given::Bool(covers(items(q), items(r)))
 }
 
 // Whether a set has some member of another.
@@ -171,5 +167,5 @@ pub fn any_of(rows: &[u32], left: u32, right: u32) -> Given
     let Shape::Set = t else {
         return Given::Fails;
     };
-    Given::Bool(meets(members(q), members(r)))
+    Given::Bool(meets(items(q), items(r)))
 }

@@ -9,7 +9,7 @@ use native.Mathlib.Omega.{arith}
 use borrow.Author.Tests.{ne_eqb}
 use lib.Dec.{eqb}
 use lib.ListN.{length, get_or, set, get_or-eq_default}
-use Rattle.sheet.specs.Forms.{no_key, no_tag, items, tag, at, TEXT}
+use Rattle.sheet.specs.Forms.{no_key, items, at, TEXT}
 use Rattle.sheet.specs.State.{lines_of, line_at, count}
 use Rattle.table.specs.Layout.{part, TOP, base, row_at, rows_at, rows_of, text_rows, lines_held, held, text_at, with_row}
 pub use Rattle.forms.proofs.Keys.{limit_small}
@@ -49,14 +49,6 @@ pub row_some : (a : List ℕ) (k n m b : ℕ) (q : List ℕ) → m ≡ get_or a 
 unfolding rows_of
 row_some a k n m b q e h hb hq = hq ∙ ap (λ (x : ℕ). row_at a (x + n)) hb ∙ sym (rows_in a (base k) (get_or a k 0) n (omega arith))
 
-pub tag_none : (r : List ℕ) → length r < 1 → no_tag ≡ tag r
-tag_none [] h = refl
-tag_none (x ∷ r) h = absurd (omega arith)
-
-pub tag_some : (r : List ℕ) → 1 ≤ length r → get_or r 0 0 ≡ tag r
-tag_some [] h = absurd (omega arith)
-tag_some (x ∷ r) h = refl
-
 -- ---- texts
 
 text_at_law : (sheet : List ℕ) (rs : List (List ℕ)) (t : ℕ) → items (get_or (text_rows sheet rs) t []) ≡ part sheet (at (get_or rs t []) 0) (at (get_or rs t []) 0 + at (get_or rs t []) 1)
@@ -64,12 +56,9 @@ text_at_law sheet [] t = refl
 text_at_law sheet (r ∷ rs) zero = refl
 text_at_law sheet (r ∷ rs) (suc t) = text_at_law sheet rs t
 
-pub text_is : (sheet a : List ℕ) (t s n : ℕ) (r q : List ℕ) → r ≡ get_or (rows_of a TEXT) t [] → s ≡ get_or r 1 0 → n ≡ get_or r 2 0 → q ≡ part sheet s (s + n) → q ≡ text_at sheet a t
+pub text_is : (sheet a : List ℕ) (t : ℕ) (r q : List ℕ) → r ≡ get_or (rows_of a TEXT) t [] → q ≡ part sheet (at r 0) (at r 0 + at r 1) → q ≡ text_at sheet a t
 unfolding text_at
-text_is sheet a t s n r q hr hs hn hq =
-    let x : s ≡ at (get_or (rows_of a TEXT) t []) 0 = hs ∙ ap (λ (l : List ℕ). get_or l 1 0) hr in
-    let y : n ≡ at (get_or (rows_of a TEXT) t []) 1 = hn ∙ ap (λ (l : List ℕ). get_or l 2 0) hr in
-    hq ∙ ap₂ (λ (u v : ℕ). part sheet u (u + v)) x y ∙ sym (text_at_law sheet (rows_of a TEXT) t)
+text_is sheet a t r q hr hq = hq ∙ ap (λ (l : List ℕ). part sheet (at l 0) (at l 0 + at l 1)) hr ∙ sym (text_at_law sheet (rows_of a TEXT) t)
 
 -- ---- a list by places
 

@@ -1,16 +1,13 @@
 -- Where the rows of a sheet lie in the lent words, and what state the words hold. The first slice, `rows`: counts, for each key the places
 -- where its rows begin, then the rows themselves. The second, `work`, while a sheet is read: pairs found to fit, depths, uses of nodes.
-use Rattle.std.specs.Prelude.{cond, List, [], ◌∷◌, ◌≡◌, ℕ, zero, suc, ◌+◌, ◌-◌, ◌≤◌, ◌<◌, eqb, length, get_or, take, drop, set, replicate}
+use Rattle.std.specs.Prelude.{cond, List, [], ◌∷◌, ◌≡◌, ℕ, zero, suc, ◌+◌, ◌≤◌, ◌<◌, eqb, length, get_or, take, drop, set, replicate}
 use Rattle.sheet.specs.Forms.{tag, items, at, SHEET, TEXT, KIND, TYPE, SHAPE, VALUE, ENTITY, PRINCIPAL, ACTION, RESOURCE, CONTEXT, DAY, NODE, POLICY, LINK, TERM}
 use Rattle.sheet.specs.State.{State}
 use Rattle.words.specs.Log.{room}
+pub use Rattle.words.specs.Log.{part}
 use Rattle.forms.specs.Keys as K
 pub use Rattle.forms.specs.Keys.{RUN, MADE, heap}
 unfoldable pub use Rattle.forms.specs.Keys.{limit, bases, base}
-
--- the words from s up to e
-abbrev pub part : List ℕ → ℕ → ℕ → List ℕ
-part w s e = take (e - s) (drop s w)
 
 -- ---- rows
 

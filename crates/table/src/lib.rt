@@ -2,12 +2,12 @@
 #![tactic(auto)]
 
 ghost use Rattle.std.specs.Prelude.{◌≡◌, ◌+◌, ◌<◌, get_or, []};
-ghost use Rattle.sheet.specs.Forms.{tag, form_of};
+ghost use Rattle.sheet.specs.Forms.{tag, at, items, form_of};
 ghost use Rattle.words.specs.Log.{part};
 ghost use Rattle.table.specs.Layout.{base, heap, row_at, rows_of, text_at, with_row};
 
 use forms::{LIT, NO_TAG, NODE, SLOT, TEXT, key_for, key_row};
-use words::{cut, put, read};
+use words::{cut, item_or, put, read};
 
 // The words after the keys' counts: how many policies run, how many values were made, and where the next row begins.
 pub const RUN: usize = forms::RUN;
@@ -81,52 +81,54 @@ pub fn item(line: &[u32], i: usize) -> u32
     read(line, i)
 }
 
+// The items of a row: all words after its tag.
+pub fn items(line: &[u32]) -> &[u32]
+    ensures { result.now ≡ items line.now }
+{
+    match line {
+        [_, rest @ ..] => rest,
+        [] => line,
+    }
+}
+
 // The number of a row's form.
 pub fn tag(line: &[u32]) -> u32
     ensures { result ≡ tag line.now }
 {
-    if line.len() < 1 {
-        return NO_TAG;
-    }
-    line[0]
+    item_or(line, 0, NO_TAG)
 }
 
 // The key of a form; most are nodes.
 pub fn key_of(tag: u32) -> usize
     ensures { result ≡ (form_of tag).key }
 {
-    if tag >= LIT {
-        if tag <= SLOT {
-            return NODE;
-        }
+    match tag {
+        LIT..=SLOT => NODE,
+        _ => key_for(tag),
     }
-    key_for(tag)
 }
 
 // The part of the sheet from `start` to `end`, cut at its end.
 pub fn bytes(sheet: &[u8], start: usize, end: usize) -> &[u8]
     ensures { result.now ≡ part sheet.now start end }
 {
-    if end <= sheet.len() {
-        if start <= end {
-            return &sheet[start..end];
-        }
-        return &sheet[end..end];
-    }
-    if start <= sheet.len() {
-        return &sheet[start..];
-    }
-    &sheet[0..0]
+    cut(sheet, start, end)
 }
 
-// The bytes of a text, as a part of the sheet.
+// The bytes of a text, by its row.
+pub fn text_of<'a, 'b>(sheet: &'a [u8], line: &'b [u32]) -> &'a [u8]
+    ensures { result.now ≡ part sheet.now (at line.now 0) (at line.now 0 + at line.now 1) }
+{
+    let start = item(line, 1) as usize;
+    let len = item(line, 2) as usize;
+    cut(sheet, start, start + len)
+}
+
+// The bytes of a text, by its number.
 pub fn text<'a, 'b>(sheet: &'a [u8], rows: &'b [u32], number: u32) -> &'a [u8]
     ensures { result.now ≡ text_at sheet.now rows.now number }
 {
-    let line = row(rows, TEXT, number);
-    let start = item(line, 1) as usize;
-    let len = item(line, 2) as usize;
-    bytes(sheet, start, start + len)
+    text_of(sheet, row(rows, TEXT, number))
 }
 
 // The words from the heap's end up to `end` become a row of a key.

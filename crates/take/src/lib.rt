@@ -1,7 +1,7 @@
 // A line of a sheet read: its row is written past the rows that the words hold, judged there, and added.
 #![tactic(auto)]
 
-ghost use Rattle.std.specs.Prelude.{◌≡◌, true, ◌+◌, ◌-◌, ◌*◌, ◌≤◌, ◌<◌, length, get_or, set};
+ghost use Rattle.std.specs.Prelude.{◌≡◌, true, ◌+◌, ◌-◌, ◌*◌, ◌≤◌, ◌<◌, length, get_or, set, OnOk};
 ghost use Rattle.words.specs.Log.{part};
 ghost use Rattle.sheet.specs.Forms.{row_of_value};
 ghost use Rattle.sheet.specs.Sheet.{in_order};
@@ -9,8 +9,10 @@ ghost use Rattle.table.specs.Layout.{TOP, SPENT, heap, with_row, held};
 ghost use Rattle.line.specs.Codes.{mode_of};
 ghost use Rattle.seen.specs.Seen.{with_seen, Seen};
 ghost use Rattle.uses.specs.Under.{under_row, spent_on};
+ghost use Rattle.faults.specs.Numbers.{fault_number};
 ghost use Rattle.take.specs.Steps.{with_depth, with_under, notes_of, with_notes, Reached, Ready, Taken};
 
+use faults::Fault;
 use forms::{NODE, POLICY, TYPE, VALUE};
 use judge::judge_at;
 use line::row_entry;
@@ -82,7 +84,7 @@ fn commit(rows: &mut [u32], work: &mut [u32], key: usize, depth: u32, end: u32)
     add_row(rows, key, end);
 }
 
-// Reads a line of this key, with its `=` at the cursor, that ends at byte `end`: its refusal, 0 for none. Its row joins those seen. The line before has the key `last`.
+// Reads a line of this key, with its `=` at the cursor, that ends at byte `end`. Its row joins those seen. The line before has the key `last`.
 pub fn take_line(
     sheet: &[u8],
     key: u64,
@@ -93,27 +95,18 @@ pub fn take_line(
     work: &mut [u32],
     seen: &mut [u32],
     last: usize,
-) -> u32
+) -> Result<(), Fault>
     requires { Ready rows.old work.old × Reached (mode_of partial) (held sheet.now rows.old work.old) × (equals.at < end) × (end ≤ length sheet.now) × (length sheet.now ≤ 16384) × (2 * get_or rows.old TOP 0 + (end + 4 - equals.at) ≤ 2 * heap + 16400) × Seen (held sheet.now rows.old work.old) seen.old × (in_order (held sheet.now rows.old work.old) last ≡ true) }
-    ensures line { Taken sheet.now (row_of_value (mode_of partial) key (part sheet.now (equals.at + 1) end)) rows.old work.old rows.new work.new (end + 4 - equals.at) result }
-    ensures seen { result ≡ 0 → seen.new ≡ with_seen seen.old (row_of_value (mode_of partial) key (part sheet.now (equals.at + 1) end)) }
+    ensures line { Taken sheet.now (row_of_value (mode_of partial) key (part sheet.now (equals.at + 1) end)) rows.old work.old rows.new work.new (end + 4 - equals.at) (fault_number result) }
+    ensures seen { OnOk result (seen.new ≡ with_seen seen.old (row_of_value (mode_of partial) key (part sheet.now (equals.at + 1) end))) }
 {
     let rows = &mut rows[..ROOM];
     let work = &mut work[..ROOM];
     let top = read(rows, TOP) as usize;
     let value = equals.value(sheet, end);
-    let n = row_entry(value, key, equals, partial, rows, top);
-    if n == 0 {
-        return 3;
-    }
+    let n = row_entry(value, key, equals, partial, rows, top).ok_or(Fault::Form)?;
     let next = top + n;
-    let v = judge_at(sheet, rows, work, top, next, seen, last);
-    let f = v.number;
-    if f != 0 {
-        return f;
-    }
-    let k = v.key;
-    let d = v.depth;
-    commit(rows, work, k, d, next as u32);
-    0
+    let v = judge_at(sheet, rows, work, top, next, seen, last)?;
+    commit(rows, work, v.key, v.depth, next as u32);
+    Ok(())
 }

@@ -2,9 +2,10 @@
 use Rattle.std.proofs.Common.{◌≡◌, ℕ, ◌<◌, ◌≤◌, List, ◌++◌, length, sym, ap, ◌∙◌, append_assoc, arith, le-ltb, lt-ltb}
 use Rattle.sheet.specs.Answer.{concat}
 use Rattle.sheet.specs.Call.{Returned, fitted, outputs}
-use Rattle.print.specs.Written.{Written}
+use Rattle.print.specs.declared.Out.{Out}
+use Rattle.print.specs.Out.{Prints}
 use Rattle.print.specs.Sent.{Sends}
-use Rattle.print.proofs.Writing.{written_append, written_as}
+use Rattle.print.proofs.Outs.{prints_as, prints_five}
 use Rattle.drawn.specs.TestLoad.{drawn, head_texts, head_rest, id_lines, nodes_from, policies_from, load, load_returned, load_written}
 use Rattle.drawn.proofs.Lengths.{drawn_many, load_short}
 use Rattle.testload.specs.Loaded.{Loaded}
@@ -17,9 +18,9 @@ unfolding load
 sheet_bytes seed n = regroup head_texts (concat (id_lines 0 n)) head_rest (concat (nodes_from 0 (drawn seed n))) (concat (policies_from 0 0 (drawn seed n)))
     ∙ ap (λ k. head_texts ++ (concat (id_lines 0 k) ++ (head_rest ++ (concat (nodes_from 0 (drawn seed n)) ++ concat (policies_from 0 0 (drawn seed n)))))) (sym (drawn_many seed n))
 
-pub whole_sheet : {was a b c d is : List ℕ} {k l m q next : ℕ} (seed n : ℕ) → Written was 0 head_texts a k → Written a k (concat (id_lines 0 n)) b l → Written b l head_rest c m
-    → Written c m (concat (nodes_from 0 (drawn seed n))) d q → Written d q (concat (policies_from 0 0 (drawn seed n))) is next → Written was 0 (load seed n) is next
-whole_sheet seed n s t u v w = written_as (written_append (written_append (written_append (written_append s t) u) v) w) (sheet_bytes seed n)
+pub whole_sheet : {o a b c d is : Out} (seed n : ℕ) → Prints o head_texts a → Prints a (concat (id_lines 0 n)) b → Prints b head_rest c
+    → Prints c (concat (nodes_from 0 (drawn seed n))) d → Prints d (concat (policies_from 0 0 (drawn seed n))) is → Prints o (load seed n) is
+whole_sheet seed n s t u v w = prints_as (prints_five s t u v w) (sheet_bytes seed n)
 
 -- ---- the call
 

@@ -4,12 +4,14 @@
 
 ghost use Rattle.std.specs.Prelude.{◌≡◌, ◌≤◌, [], ◌∷◌, ◌++◌};
 ghost use Rattle.print.specs.Written.{Written};
+ghost use Rattle.print.specs.Out.{Prints};
 ghost use Rattle.sheet.specs.Bytes.{digits};
 ghost use Rattle.sheet.specs.Answer.{concat, printed};
 ghost use Rattle.drawn.specs.TestLoad.{next, drawn, id_lines, tree_lines, nodes_in, nodes_from, effect_as, policies_from, load};
 ghost use Rattle.testload.specs.Loaded.{Loaded, Draws};
 
-use print::{Returned, byte, bytes, number};
+use faults::Fault;
+use print::{Out, Returned};
 
 // What is added to the state for each draw.
 const STEP: u64 = 11400714819323198485;
@@ -76,146 +78,131 @@ fn nodes_in(tree: u64) -> u64
 // ---- lines
 
 // The text of the id of policy `i`.
-fn id_line(out: &mut [u8], at: usize, i: u64) -> usize
-    ensures { Written out.old at (printed "text" ((112 ∷ digits i) ∷ [])) out.new result }
+fn id_line(out: &mut Out, i: u64)
+    ensures { Prints out.old (printed "text" ((112 ∷ digits i) ∷ [])) out.new }
 {
-    let k = bytes(out, at, b"text=p");
-    let l = number(out, k, i);
-    byte(out, l, b'\n')
+    out.bytes(b"text=p");
+    out.number(i);
+    out.byte(b'\n');
 }
 
 // The texts of all ids.
-fn ids(out: &mut [u8], at: usize, count: u64) -> usize
-    ensures { Written out.old at (concat (id_lines 0 count)) out.new result }
+fn ids(out: &mut Out, count: u64)
+    ensures { Prints out.old (concat (id_lines 0 count)) out.new }
 {
-    let mut i = 0;
-    let mut k = at;
-    while i < count {
-        k = id_line(out, k, i);
-        i += 1;
+    for i in 0..count {
+        id_line(out, i);
     }
-    k
 }
 
 // A `like` on the attribute of the context, its nodes numbered from `node`.
-fn like_lines(out: &mut [u8], at: usize, node: u64) -> usize
+fn like_lines(out: &mut Out, node: u64)
     requires { node ≤ 192 }
-    ensures { Written out.old at (concat (tree_lines node 2)) out.new result }
+    ensures { Prints out.old (concat (tree_lines node 2)) out.new }
 {
-    let k = bytes(out, at, b"node=3,var,c\nnode=1,get,");
-    let l = number(out, k, node);
-    let m = bytes(out, l, b",4\nnode=0,like,");
-    let n = number(out, m, node + 1);
-    bytes(out, n, b",*\n")
+    out.bytes(b"node=3,var,c\nnode=1,get,");
+    out.number(node);
+    out.bytes(b",4\nnode=0,like,");
+    out.number(node + 1);
+    out.bytes(b",*\n");
 }
 
 // The nodes of one tree, numbered from `node`.
-fn tree_lines(out: &mut [u8], at: usize, node: u64, tree: u64) -> usize
+fn tree_lines(out: &mut Out, node: u64, tree: u64)
     requires { node ≤ 192 }
-    ensures { Written out.old at (concat (tree_lines node tree)) out.new result }
+    ensures { Prints out.old (concat (tree_lines node tree)) out.new }
 {
     match tree {
-        LITERAL_TRUE => bytes(out, at, b"node=0,lit,1\n"),
-        LITERAL_FALSE => bytes(out, at, b"node=0,lit,0\n"),
-        _ => like_lines(out, at, node),
+        LITERAL_TRUE => out.bytes(b"node=0,lit,1\n"),
+        LITERAL_FALSE => out.bytes(b"node=0,lit,0\n"),
+        _ => like_lines(out, node),
     }
 }
 
 // The nodes, policy by policy.
-fn nodes(out: &mut [u8], at: usize, seed: u64, count: u64) -> usize
+fn nodes(out: &mut Out, seed: u64, count: u64)
     requires { count ≤ 64 }
-    ensures { Written out.old at (concat (nodes_from 0 (drawn seed count))) out.new result }
+    ensures { Prints out.old (concat (nodes_from 0 (drawn seed count))) out.new }
 {
     let mut state = seed;
     let mut node = 0;
-    let mut i = 0;
-    let mut k = at;
-    while i < count {
+    for _i in 0..count {
         let p = drawn(state);
-        k = tree_lines(out, k, node, p.tree);
+        tree_lines(out, node, p.tree);
         node += nodes_in(p.tree);
         state = p.state;
-        i += 1;
     }
-    k
 }
 
 // An effect between commas.
-fn effect_word(out: &mut [u8], at: usize, effect: u64) -> usize
-    ensures { Written out.old at ((44 ∷ effect_as effect) ++ (44 ∷ [])) out.new result }
+fn effect_word(out: &mut Out, effect: u64)
+    ensures { Prints out.old ((44 ∷ effect_as effect) ++ (44 ∷ [])) out.new }
 {
     match effect {
-        PERMIT => bytes(out, at, b",permit,"),
-        _ => bytes(out, at, b",forbid,"),
+        PERMIT => out.bytes(b",permit,"),
+        _ => out.bytes(b",forbid,"),
     }
 }
 
 // A policy's line.
-fn policy_line(out: &mut [u8], at: usize, id: u64, effect: u64, root: u64) -> usize
-    ensures { Written out.old at (printed "policy" (digits id ∷ effect_as effect ∷ digits root ∷ [])) out.new result }
+fn policy_line(out: &mut Out, id: u64, effect: u64, root: u64)
+    ensures { Prints out.old (printed "policy" (digits id ∷ effect_as effect ∷ digits root ∷ [])) out.new }
 {
-    let k = bytes(out, at, b"policy=");
-    let l = number(out, k, id);
-    let m = effect_word(out, l, effect);
-    let n = number(out, m, root);
-    byte(out, n, b'\n')
+    out.bytes(b"policy=");
+    out.number(id);
+    effect_word(out, effect);
+    out.number(root);
+    out.byte(b'\n');
 }
 
 // The policies: of the nodes of each the last is its root.
-fn policies(out: &mut [u8], at: usize, seed: u64, count: u64) -> usize
+fn policies(out: &mut Out, seed: u64, count: u64)
     requires { count ≤ 64 }
-    ensures { Written out.old at (concat (policies_from 0 0 (drawn seed count))) out.new result }
+    ensures { Prints out.old (concat (policies_from 0 0 (drawn seed count))) out.new }
 {
     let mut state = seed;
     let mut node = 0;
-    let mut i = 0;
-    let mut k = at;
-    while i < count {
+    for i in 0..count {
         let p = drawn(state);
         node += nodes_in(p.tree);
-        k = policy_line(out, k, FIRST_ID + i, p.effect, node - 1);
+        policy_line(out, FIRST_ID + i, p.effect, node - 1);
         state = p.state;
-        i += 1;
     }
-    k
 }
 
 // ---- the sheet and the call
 
-// The whole sheet from the buffer's start.
-fn sheet(out: &mut [u8], seed: u64, count: u64) -> usize
+// The whole sheet.
+fn print(out: &mut Out, seed: u64, count: u64)
     requires { count ≤ 64 }
-    ensures { Written out.old 0 (load seed count) out.new result }
+    ensures { Prints out.old (load seed count) out.new }
 {
-    let k = bytes(
-        out,
-        0,
-        b"sheet=partial\ntext=Client\ntext=Action\ntext=Tariff\ntext=quote\ntext=name\n",
-    );
-    let l = ids(out, k, count);
-    let m = bytes(
-        out,
-        l,
+    out.bytes(b"sheet=partial\ntext=Client\ntext=Action\ntext=Tariff\ntext=quote\ntext=name\n");
+    ids(out, count);
+    out.bytes(
         b"kind=0,e\nkind=1,a\nkind=2,e\ntype=bool\ntype=string\ntype=record\ntype=record,4,r,1\nshape=2,-\nshape=2,-\nshape=2,-\nvalue=bool,0\nvalue=bool,1\nprincipal=0,?\naction=1,3\nresource=2,?\ncontext=3,?\nday=2000-01-01\n",
     );
-    let n = nodes(out, m, seed, count);
-    policies(out, n, seed, count)
+    nodes(out, seed, count);
+    policies(out, seed, count);
+}
+
+// The sheet at a buffer's start, and how many bytes it has.
+fn sheet(buffer: &mut [u8], seed: u64, count: u64) -> usize
+    requires { count ≤ 64 }
+    ensures { Written buffer.old 0 (load seed count) buffer.new result }
+{
+    let mut out = Out::new(buffer);
+    print(&mut out, seed, count);
+    out.len()
 }
 
 // The test load that a seed and a number of policies name.
 pub fn load(seed: u64, policies: u32, out: &mut [u8]) -> Returned
     ensures { Loaded seed policies out.old result.number result.line result.length out.new }
 {
-    if policies < 1 {
+    if policies < 1 || policies > MOST {
         return Returned {
-            number: 13,
-            line: 0,
-            length: 0,
-        };
-    }
-    if policies > MOST {
-        return Returned {
-            number: 13,
+            number: u32::from(Fault::PolicyCount),
             line: 0,
             length: 0,
         };
@@ -224,7 +211,7 @@ pub fn load(seed: u64, policies: u32, out: &mut [u8]) -> Returned
     let n = sheet(&mut out[..0], seed, count);
     if out.len() < n {
         return Returned {
-            number: 10,
+            number: u32::from(Fault::ShortBuffer),
             line: 0,
             length: n,
         };

@@ -22,8 +22,8 @@ use Rattle.strict.specs.Entities.{get_out, has_out, gettag_out, hastag_out, in_o
 use Rattle.strict.specs.declared.Given.{Given}
 use Rattle.strict.proofs.Links.{like_link, bytes_link}
 use Rattle.rules.specs.Rules.{rule_in, schema_at, ty_at}
-use Rattle.rules.specs.declared.Rule.{Rule}
-use Rattle.rules.specs.declared.Rule.TheVariants.{Silent}
+use Rattle.std.specs.Prelude as P
+use Rattle.std.specs.Prelude.{None}
 use Rattle.tpe.specs.Run as W
 use Rattle.tpe.specs.Gives.{one_gives, one_give, one_rule, two_gives, two_give, two_rule}
 
@@ -85,7 +85,7 @@ module _ (sheet a : List ℕ) (n t v : ℕ) (r : List ℕ) (g : Given) (er : r �
       place_one (t - IS) refl
       (q ∙ sym (others_one (t - IS) (λ e. omega (arith, e, h)) (λ e. i (omega (arith, e))) (λ e. j (omega (arith, e))) (λ e. k (omega (arith, e))) (λ e. l (omega (arith, e))) (λ e. m (omega (arith, e)))))
 
-module _ (a : List ℕ) (n t x y : ℕ) (r : List ℕ) (q : Rule) (er : r ≡ get_or (rows_of a NODE) n []) (ex : x ≡ get_or r 3 0) where
+module _ (a : List ℕ) (n t x y : ℕ) (r : List ℕ) (q : P.Option Bool) (er : r ≡ get_or (rows_of a NODE) n []) (ex : x ≡ get_or r 3 0) where
   pub rules_is : t ≤ IS → rule_in q ≡ un_rule (schema_at a) (uis x) (ty_at a y) → rule_in q ≡ one_rule t a (get_or (rows_of a NODE) n []) y
   unfolding one_rule
   rules_is h e = let z : t - IS ≡ 0 = omega arith in rw (← er, z, ← ex) e
@@ -101,7 +101,7 @@ no_rule_one (suc (suc zero)) p q h k = refl
 no_rule_one (suc (suc (suc zero))) p q h k = absurd (k refl)
 no_rule_one (suc (suc (suc (suc j)))) p q h k = refl
 
-pub rules_none : (a r : List ℕ) (t y : ℕ) → IS < t → (t ≡ HAS → ⊥) → rule_in Silent ≡ one_rule t a r y
+pub rules_none : (a r : List ℕ) (t y : ℕ) → IS < t → (t ≡ HAS → ⊥) → rule_in None ≡ one_rule t a r y
 unfolding one_rule
 rules_none a r t y h k = sym (no_rule_one (t - IS) (un_rule (schema_at a) (uis (at r 2)) (ty_at a y)) (has_rule (schema_at a) (at r 2) (ty_at a y)) (λ e. omega (arith, e, h)) (λ e. k (omega (arith, e))))
 
@@ -181,7 +181,7 @@ module _ (a : List ℕ) (t v w : ℕ) (g : Given) where
       let n : ANY ≤ t = above t (t - IN) (omega (arith, h)) (λ e. i (omega (arith, e))) (λ e. j (omega (arith, e))) (λ e. k (omega (arith, e))) (λ e. l (omega (arith, e))) (λ e. m (omega (arith, e))) in
       place_two (suc (suc (suc (suc (suc (suc (suc (suc (suc (suc (suc (t - ANY)))))))))))) (past t n) q
 
-module _ (a : List ℕ) (t y z : ℕ) (q : Rule) where
+module _ (a : List ℕ) (t y z : ℕ) (q : P.Option Bool) where
   pub rules_eq : t ≤ EQ → rule_in q ≡ bin_rule (schema_at a) beq (ty_at a y) (ty_at a z) → rule_in q ≡ two_rule t a y z
   unfolding two_rule
   rules_eq h e = let j : t - EQ ≡ 0 = omega arith in rw j e
@@ -206,7 +206,7 @@ no_rule_two (suc (suc (suc (suc (suc (suc (suc zero))))))) p q r h k l = refl
 no_rule_two (suc (suc (suc (suc (suc (suc (suc (suc zero)))))))) p q r h k l = absurd (l refl)
 no_rule_two (suc (suc (suc (suc (suc (suc (suc (suc (suc j))))))))) p q r h k l = refl
 
-pub rules_silent : (a : List ℕ) (t y z : ℕ) → EQ < t → (t ≡ IN → ⊥) → (t ≡ HASTAG → ⊥) → rule_in Silent ≡ two_rule t a y z
+pub rules_silent : (a : List ℕ) (t y z : ℕ) → EQ < t → (t ≡ IN → ⊥) → (t ≡ HASTAG → ⊥) → rule_in None ≡ two_rule t a y z
 unfolding two_rule
 rules_silent a t y z h k l =
     sym (no_rule_two (t - EQ) (bin_rule (schema_at a) beq (ty_at a y) (ty_at a z)) (rel_rule (schema_at a) rin (ty_at a y) (ty_at a z)) (rel_rule (schema_at a) rhastag (ty_at a y) (ty_at a z))

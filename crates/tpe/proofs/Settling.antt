@@ -24,8 +24,11 @@ use Rattle.residual.specs.Rows.{lit_row, err_row, left_row}
 use Rattle.strict.specs.Gives.{out_of}
 use Rattle.strict.specs.declared.Given.{Given}
 use Rattle.strict.specs.declared.Given.TheVariants.{Bool as Boolᵍ, Long, Old, Fails, Stays}
-use Rattle.tpe.specs.Run.{Kids, lit_of, err_of, left_of, made_of, words_of, give_of, settle_of, var_for, env_in, many_of, set_of, rec_of, all_values, some_error}
+use Rattle.tpe.specs.Run.{Kids, lit_of, err_of, left_of, made_of, words_of, give_of, settle_of, var_for, env_in, many_of, set_of, rec_of}
 use Rattle.tpe.specs.Leaves.{Leaves}
+use Rattle.tpe.specs.Joins.{join_in}
+use Rattle.tpe.specs.declared.steps.Joined.{Joined}
+use Rattle.tpe.specs.declared.steps.Joined.TheVariants.{Values, Error, Open}
 use Rattle.tpe.specs.Steps.{many_at}
 use Rattle.tpe.specs.Gives.{context_given, many_row}
 use Rattle.tpe.proofs.Ways.{made_pushed}
@@ -156,32 +159,27 @@ drop_log b zero (suc bt) = let z : suc bt - 0 ≡ suc bt = omega arith in rw z
 drop_log [] (suc start) (suc bt) = sym (take-nil (suc bt - suc start))
 drop_log (x ∷ b) (suc start) (suc bt) = let z : suc bt - suc start ≡ bt - start = omega arith in rw z (drop_log b start bt)
 
-module _ (a b : List ℕ) (start bt n t y c : ℕ) (room : Room b bt) (le : start ≤ bt) (ey : y ≡ at (get_or (rows_of a NODE) n []) 0) where
+module _ (a b : List ℕ) (start bt n t y : ℕ) (j : Joined) (room : Room b bt) (le : start ≤ bt) (ey : y ≡ at (get_or (rows_of a NODE) n []) 0) where
   abbrev r : List ℕ
   r = get_or (rows_of a NODE) n []
 
   abbrev Left : List ℕ → List ℕ → ℕ → Type 0
-  Left a' b' e = Leaves start a' b' e (many_at partial [] t start n (get_or (rows_of a NODE) n []) (record { words = a; log = take bt b; join = c }))
+  Left a' b' e = Leaves start a' b' e (many_at partial [] t start n (get_or (rows_of a NODE) n []) (record { words = a; log = take bt b; join = join_in j }))
 
-  as_many : (a' b' : List ℕ) (e : ℕ) → Leaves start a' b' e (many_of (many_row t r (drop start (take bt b))) a (take bt b) start n y c) → Left a' b' e
-  as_many a' b' e h = rw (many_is t r start n (record { words = a; log = take bt b; join = c }), ← ey) h
+  as_many : (a' b' : List ℕ) (e : ℕ) → Leaves start a' b' e (many_of (many_row t r (drop start (take bt b))) a (take bt b) start n y (join_in j)) → Left a' b' e
+  as_many a' b' e h = rw (many_is t r start n (record { words = a; log = take bt b; join = join_in j }), ← ey) h
 
-  pub many_made : (a' b₁ b' : List ℕ) (e v : ℕ) → c ≡ all_values → length b₁ ≡ length b → MadeBeside a a' v bt b b₁ (many_row t (get_or (rows_of a NODE) n []) (part b start bt)) → Appended b₁ start (lit_row v y) b' e → Left a' b' e
+  pub many_made : (a' b₁ b' : List ℕ) (e v : ℕ) → j ≡ Values → length b₁ ≡ length b → MadeBeside a a' v bt b b₁ (many_row t (get_or (rows_of a NODE) n []) (part b start bt)) → Appended b₁ start (lit_row v y) b' e → Left a' b' e
   unfolding many_of
   many_made a' b₁ b' e v z el m p =
       let low : Room b₁ start = record { low = omega (arith, room.low); long = omega (arith, room.long) } in
       let cut : take start (take bt b) ≡ take start b₁ = ap (take start) (sym m.log) ∙ log_cut b₁ bt start le in
       as_many a' b' e (rw (z, drop_log b start bt, cut) (made_pushed a a' b₁ b' (written (take bt b) (many_row t (get_or (rows_of a NODE) n []) (part b start bt))) start e y v low m.made p))
 
-  pub many_error : (b' : List ℕ) (e : ℕ) → c ≡ some_error → Appended b start (err_row y) b' e → Left a b' e
+  pub many_error : (b' : List ℕ) (e : ℕ) → j ≡ Error → Appended b start (err_row y) b' e → Left a b' e
   unfolding many_of
   many_error b' e z p = as_many a b' e (rw z (error_put a b b' start bt e y room le p))
 
-  open_one : (k : ℕ) → (k ≡ all_values → ⊥) → (k ≡ some_error → ⊥) → (q : List ℕ) → many_of q a (take bt b) start n y k ≡ left_of a (take bt b) start n 0 y
+  pub many_open : (b' : List ℕ) (e : ℕ) → j ≡ Open → Appended b bt (left_row n 0 (bt - start) y) b' e → Left a b' e
   unfolding many_of
-  open_one zero i j q = absurd (i refl)
-  open_one (suc zero) i j q = absurd (j refl)
-  open_one (suc (suc k)) i j q = refl
-
-  pub many_open : (b' : List ℕ) (e : ℕ) → (c ≡ all_values → ⊥) → (c ≡ some_error → ⊥) → Appended b bt (left_row n 0 (bt - start) y) b' e → Left a b' e
-  many_open b' e i j p = as_many a b' e (rw (open_one c i j (many_row t r (drop start (take bt b)))) (left_put a b b' start bt e y room le n 0 p))
+  many_open b' e z p = as_many a b' e (rw z (left_put a b b' start bt e y room le n 0 p))

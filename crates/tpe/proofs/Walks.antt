@@ -9,9 +9,6 @@ use native.Mathlib.Numerals.{add-one}
 use native.Mathlib.Omega.{arith}
 use native.Mathlib.Decide.{dec_lt}
 use lib.ListN.{get_or, take, drop, length, length-take, length-drop}
-use types.Run.{OneOf}
-use denote.Enum.Declared.{tag_of}
-use Rattle.rules.specs.contracts.Rule.{the_type}
 use Rattle.cedar.specs.Value.{on_some}
 use Rattle.cedar.specs.Interpret.{alone}
 use Rattle.cedar.specs.TypeRules.{has_rule}
@@ -26,15 +23,14 @@ use Rattle.words.proofs.Logs.{append_holds, append_room, log_cut, log_length}
 use Rattle.table.specs.Layout.{base, row_at, rows_of}
 use Rattle.table.proofs.Rows.{row_none, row_some, count_rows}
 use Rattle.value.specs.Lines.{value_lines}
-use Rattle.value.specs.Made.{bool_row}
 use Rattle.value.proofs.Makes.{Finding, find_start, find_end, find_hit, find_on}
+use Rattle.value.specs.Made.{bool_row}
 use Rattle.residual.specs.Rows.{lit_row, err_row, left_row, word_at, stage_at}
 use Rattle.residual.specs.Errs.{errs}
 use Rattle.residual.specs.declared.Stage.{Stage}
 use Rattle.residual.specs.declared.Stage.TheVariants.{Value, Error, Open}
 use Rattle.rules.specs.Rules.{rule_in, schema_at}
-use Rattle.rules.specs.declared.Rule.{Rule}
-use Rattle.rules.specs.declared.Rule.TheVariants.{Says}
+use Rattle.std.specs.Prelude.{Some, None}
 use Rattle.rules.proofs.Same.{has_same, has_kind_same}
 use Rattle.strict.specs.Gives.{out_of}
 use Rattle.lookup.specs.Lookups.{values, value_in, look_attr}
@@ -52,7 +48,7 @@ use Rattle.tpe.specs.Leaves.{Leaves}
 use Rattle.tpe.specs.Gives.{one_rule, unless_err, walk_in, Taken, rule_or}
 use Rattle.tpe.proofs.Slices.{word_log, stage_log, errs_log}
 use Rattle.tpe.proofs.Settling.{error_put, left_put}
-use Rattle.tpe.proofs.Worked.{silent, ruled_settles}
+use Rattle.tpe.proofs.Worked.{Ruled, ruled_settles}
 
 -- ---- the type line of a kind
 
@@ -197,24 +193,22 @@ module _ (a : List ℕ) (n b end j : ℕ) (eb : b ≡ base NODE) (ee : end ≡ g
 
 -- ---- what is left over
 
-pub value_room : (b b₁ xs : List ℕ) (start p : ℕ) → Room b start → Appended b start xs b₁ p → (start ≤ p) × (p ≤ 16384)
-value_room b b₁ xs start p room w = let h = append_holds room w in (h.grows, h.low)
-
-pub rest_put : (a b b₁ b₂ : List ℕ) (start p e n y j v k T : ℕ) → Room b start → T ≡ entity_type a k → Appended b start (lit_row v T) b₁ p → Appended b₁ p (left_row n j (p - start) y) b₂ e
+pub rest_put : (a b b₁ b₂ : List ℕ) (start bt p e n y j v k T : ℕ) → Room b bt → start ≤ bt → T ≡ entity_type a k → Appended b start (lit_row v T) b₁ p → Appended b₁ p (left_row n j (p - start) y) b₂ e
     → Leaves start a b₂ e (left_of a (appended (take start b) (lit_row v (entity_type a k))) (length (take start b)) n j y)
-rest_put a b b₁ b₂ start p e n y j v k T room et w u =
-    rw (← et, ← (append_holds room w).is, log_length b start room) (left_put a b₁ b₂ start p e y (append_room room w) (append_holds room w).grows n j u)
+rest_put a b b₁ b₂ start bt p e n y j v k T room le et w u =
+    let low : Room b start = record { low = omega (arith, room.low); long = room.long } in
+    rw (← et, ← (append_holds low w).is, log_length b start low) (left_put a b₁ b₂ start p e y (append_room low w) (append_holds low w).grows n j u)
 
-module _ (a b b' : List ℕ) (start n j v k e y u : ℕ) (r : List ℕ) (q : Rule) (er : r ≡ get_or (rows_of a NODE) n []) (ey : y ≡ get_or r 1 0) (eu : u ≡ get_or r (3 + j) 0) (eq : rule_in q ≡ has_rule (schema_at a) u (alone k)) where
+module _ (a b b' : List ℕ) (start n j v k e y u : ℕ) (r : List ℕ) (q : Ruled) (er : r ≡ get_or (rows_of a NODE) n []) (ey : y ≡ get_or r 1 0) (eu : u ≡ get_or r (3 + j) 0) (eq : rule_in q ≡ has_rule (schema_at a) u (alone k)) where
   next_text : has_rule (schema_at a) (at r (2 + j)) (alone k) ≡ rule_in q
   next_text = let z : suc (2 + j) ≡ 3 + j = omega arith in rw (z, ← eu) (sym eq)
 
-  pub stuck_left : OneOf (1 ∷ []) (tag_of the_type q) → Leaves start a b' e (left_of a (appended (take start b) (lit_row v (entity_type a k))) (length (take start b)) n j y)
+  pub stuck_left : q ≡ None → Leaves start a b' e (left_of a (appended (take start b) (lit_row v (entity_type a k))) (length (take start b)) n j y)
       → Leaves start a b' e (stuck_of partial [] a (take start b) n (get_or (rows_of a NODE) n []) j v k (has_rule (schema_at a) (at (get_or (rows_of a NODE) n []) (2 + j)) (alone k)))
   unfolding stuck_of
-  stuck_left s h = rw (← er, next_text, silent q s, ← ey) h
+  stuck_left s h = rw (← er, next_text, s, ← ey) h
 
-  pub stuck_said : (a' : List ℕ) (x : Bool) → q ≡ Says x → Leaves start a' b' e (made_of a (take start b) y (bool_row x))
+  pub stuck_said : (a' : List ℕ) (x : Bool) → q ≡ Some x → Leaves start a' b' e (made_of a (take start b) y (bool_row x))
       → Leaves start a' b' e (stuck_of partial [] a (take start b) n (get_or (rows_of a NODE) n []) j v k (has_rule (schema_at a) (at (get_or (rows_of a NODE) n []) (2 + j)) (alone k)))
   unfolding stuck_of
   stuck_said a' x s h = rw (← er, next_text, s, ← ey) h
@@ -256,7 +250,7 @@ module _ (a b b' : List ℕ) (start bt n v e y : ℕ) (w : Walked) (le : start �
 
 -- ---- with no step taken
 
-pub unmoved_settled : (a b a' b' : List ℕ) (start bt n e y : ℕ) (q : Rule) (g : Given) → Room b bt → y ≡ at (get_or (rows_of a NODE) n []) 0
+pub unmoved_settled : (a b a' b' : List ℕ) (start bt n e y : ℕ) (q : Ruled) (g : Given) → Room b bt → y ≡ at (get_or (rows_of a NODE) n []) 0
     → rule_in q ≡ unless_err (errs (rows_of a NODE) b bt) (one_rule HAS a (get_or (rows_of a NODE) n []) (word_at b bt 3)) → out_of g ≡ rule_or (rule_in q) stays
     → Leaves start a' b' e (settle_of a (take bt b) start n y (out_of g))
     → Leaves start a' b' e (unmoved_of partial [] a (take bt b) start n (get_or (rows_of a NODE) n []))

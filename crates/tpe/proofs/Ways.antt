@@ -33,27 +33,9 @@ use Rattle.tpe.proofs.Slices.{errs_log}
 use Rattle.tpe.specs.declared.Class.{Class as Classᶜ}
 use Rattle.tpe.specs.declared.Class.TheVariants.{True, False, Error as Errorᶜ, Open as Openᶜ}
 
-module _ (a : List ℕ) (v : ℕ) (q : List ℕ) (s : Shape) (eq : q ≡ get_or (value_lines a) v []) (es : s ≡ shape_of q) where
-  by_shape : class_by a (Value v) ≡ r_bool copen (shape_row s (items q)) truth
-  unfolding class_by
-  by_shape = ap (λ r. r_bool copen r truth) (row_in (value_lines a) v ∙ ap value_row (sym eq) ∙ shape_row_law q ∙ ap (λ (x : Shape). shape_row x (items q)) (sym es))
-
-  pub class_true : (b : Bool) → s ≡ Boolˢ b → b ≡ true → class_in True ≡ class_by a (Value v)
-  class_true b e h = sym (by_shape ∙ rw (e, h))
-
-  pub class_false : (b : Bool) → s ≡ Boolˢ b → b ≡ false → class_in False ≡ class_by a (Value v)
-  class_false b e h = sym (by_shape ∙ rw (e, h))
-
-  pub class_other : OneOf (1 ∷ 2 ∷ 3 ∷ 4 ∷ 5 ∷ []) (tag_of the_type s) → class_in Openᶜ ≡ class_by a (Value v)
-  class_other h = sym (by_shape ∙ go s h)
-    where
-      go : (x : Shape) → OneOf (1 ∷ 2 ∷ 3 ∷ 4 ∷ 5 ∷ []) (tag_of the_type x) → r_bool copen (shape_row x (items q)) truth ≡ copen
-      go (Boolˢ b) k = absurd (miss (1 ∷ 2 ∷ 3 ∷ 4 ∷ 5 ∷ []) 0 tt k)
-      go (Long w) k = refl
-      go (Text t) k = refl
-      go (Entity x t) k = refl
-      go Set k = refl
-      go Record k = refl
+pub by_shape : (a : List ℕ) (v : ℕ) (q : List ℕ) → q ≡ get_or (value_lines a) v [] → class_by a (Value v) ≡ r_bool copen (shape_row (shape_of q) (items q)) truth
+unfolding class_by
+by_shape a v q eq = ap (λ r. r_bool copen r truth) (row_in (value_lines a) v ∙ ap value_row (sym eq) ∙ shape_row_law q)
 
 module _ (a b : List ℕ) (e : ℕ) (s : Stage) (es : s ≡ stage_at b e) where
   pub at_value : (v : ℕ) (c : Classᶜ) → s ≡ Value v → class_in c ≡ class_by a (Value v) → class_in c ≡ class_by a (stage_at b e)
@@ -75,6 +57,10 @@ made_pushed a a' b b' r bt e y v room m p = record {
   log = holds_as (append_holds room p) (ap (λ (x : ℕ). appended (take bt b) (lit_row x y)) m.number);
 }
 
+-- the same in the place of what stands from `start` on
+pub made_over : (a a' b b' r : List ℕ) (start bt e y v : ℕ) → Room b bt → start ≤ bt → Made a r a' v → Appended b start (lit_row v y) b' e → Leaves start a' b' e (made_of a (take start b) y r)
+made_over a a' b b' r start bt e y v room h m p = made_pushed a a' b b' r start e y v (record { low = omega (arith, room.low); long = room.long }) m p
+
 -- `decided`
 module _ (a b : List ℕ) (start mid bt n y : ℕ) (z x : Bool) (room : Room b bt) (order : (start ≤ mid) × (mid ≤ bt)) (ex : x ≡ errs (rows_of a NODE) b mid) where
   test_log : x ≡ errs (rows_of a NODE) (take bt b) mid
@@ -85,12 +71,10 @@ module _ (a b : List ℕ) (start mid bt n y : ℕ) (z x : Bool) (room : Room b b
   unfolding decided_by
   decided_made a' b' e f h = rw (← test_log, f, log_cut b bt start (omega (arith, order.0, order.1))) h
 
-  pub decided_kept : (a' b₁ b₂ : List ℕ) (p e : ℕ) → x ≡ true → length b₁ ≡ length b → Leaves mid a' b₁ p (made_of a (take mid b) y (bool_row z)) → Appended b₁ p (left_row n 0 (p - start) y) b₂ e
+  pub decided_kept : (a' b₁ b₂ : List ℕ) (p e : ℕ) → x ≡ true → Room b₁ p → Leaves mid a' b₁ p (made_of a (take mid b) y (bool_row z)) → Appended b₁ p (left_row n 0 (p - start) y) b₂ e
       → Leaves start a' b₂ e (decided_by z start n y mid a (take bt b) (errs (rows_of a NODE) (take bt b) mid))
   unfolding decided_by made_of lit_of left_of
-  decided_kept a' b₁ b₂ p e f el h q =
-      let low : Room b mid = record { low = omega (arith, order.1, room.low); long = room.long } in
-      let r : Room b₁ p = holds_room low el h.log in
+  decided_kept a' b₁ b₂ p e f r h q =
       let len : length (take p b₁) ≡ p = log_length b₁ p r in
       rw (← test_log, f, log_cut b bt mid order.1)
       (record { words = h.words; log = holds_as (holds_from (append_holds r q) (omega (arith, order.0, h.log.grows))) (ap (λ (j : ℕ). appended (take p b₁) (left_row n 0 (j - start) y)) (sym len) ∙ ap (λ (l : List ℕ). appended l (left_row n 0 (length l - start) y)) h.log.is) })

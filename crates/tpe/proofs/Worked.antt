@@ -7,9 +7,6 @@ use Prim.Native.Nat.{ℕ, zero, suc, ◌+◌, ◌-◌, ◌≤◌}
 use native.Mathlib.Nat.{le_refl}
 use native.Mathlib.Omega.{arith}
 use lib.ListN.{get_or, take, drop, length}
-use types.Run.{OneOf, miss}
-use denote.Enum.Declared.{tag_of}
-use Rattle.rules.specs.contracts.Rule.{the_type}
 use Rattle.cedar.specs.Residual.{uis, uempty, beq, bany, rin, rhastag}
 use Rattle.cedar.specs.TypeRules.{un_rule, bin_rule, rel_rule, has_rule}
 use Rattle.cedar.specs.Numbered.{NOut, stays, n_un, n_bin}
@@ -25,8 +22,8 @@ use Rattle.residual.specs.Errs.{errs}
 use Rattle.residual.specs.declared.Stage.{Stage}
 use Rattle.residual.specs.declared.Stage.TheVariants.{Value, Error, Open}
 use Rattle.rules.specs.Rules.{rule_in, schema_at, ty_at}
-use Rattle.rules.specs.declared.Rule.{Rule}
-use Rattle.rules.specs.declared.Rule.TheVariants.{Says, Silent}
+use Rattle.std.specs.Prelude as P
+use Rattle.std.specs.Prelude.{Some, None}
 use Rattle.rules.proofs.Same.{un_same, bin_same, rel_same, has_same, has_kind_same}
 use Rattle.strict.specs.Gives.{out_of}
 use Rattle.strict.specs.declared.Given.{Given}
@@ -38,6 +35,10 @@ use Rattle.tpe.specs.Gives.{one_gives, one_give, one_rule, two_gives, two_give, 
 use Rattle.tpe.specs.declared.steps.Pair.{Pair}
 use Rattle.tpe.specs.declared.steps.Pair.TheVariants.{Values, Error as Errorᵖ, Open as Openᵖ}
 use Rattle.tpe.proofs.Slices.{word_log, stage_log, errs_log}
+
+-- what a rule of the code says
+abbrev pub Ruled : Type 0
+Ruled = P.Option Bool
 
 -- ---- by the operand alone
 
@@ -59,38 +60,13 @@ module _ (sheet a b : List ℕ) (bt n t : ℕ) (s : Stage) (es : s ≡ stage_at 
 
 -- ---- a rule, where no operand can err
 
-pub silent : (q : Rule) → OneOf (1 ∷ []) (tag_of the_type q) → rule_in q ≡ none
-silent (Says x) h = absurd (miss (1 ∷ []) 0 tt h)
-silent Silent h = refl
-
-unless_none : (k : Bool) → unless_err k none ≡ none
-unless_none true = refl
-unless_none false = refl
-
-module _ (nodes : List (List ℕ)) (b : List ℕ) (bt : ℕ) (q : Rule) where
-  pub unless_silent : OneOf (1 ∷ []) (tag_of the_type q) → rule_in Silent ≡ unless_err (errs nodes b bt) (rule_in q)
-  unless_silent h = rw (silent q h) (sym (unless_none (errs nodes b bt)))
-
-  module _ (k : Bool) (ek : k ≡ errs nodes b bt) where
-    pub unless_errs : k ≡ true → rule_in Silent ≡ unless_err (errs nodes b bt) (rule_in q)
-    unless_errs h = rw (← ek, h)
-
-    pub unless_says : (x : Bool) → q ≡ Says x → k ≡ false → rule_in (Says x) ≡ unless_err (errs nodes b bt) (rule_in q)
-    unless_says x e h = rw (← ek, h, e)
-
 -- q is the rule k, and o what the operation gives
-module _ (q : Rule) (k : Option Bool) (o : NOut) (eq : rule_in q ≡ k) where
-  pub rule_silent : (g : Given) → OneOf (1 ∷ []) (tag_of the_type q) → out_of g ≡ o → out_of g ≡ rule_or k o
-  rule_silent g h e = rw (← eq, silent q h) e
+module _ (q : Ruled) (k : Option Bool) (o : NOut) (eq : rule_in q ≡ k) where
+  pub rule_silent : (g : Given) → q ≡ None → out_of g ≡ o → out_of g ≡ rule_or k o
+  rule_silent g h e = rw (← eq, h) e
 
-  pub rule_says : (x : Bool) → q ≡ Says x → out_of (Boolᵍ x) ≡ rule_or k o
+  pub rule_says : (x : Bool) → q ≡ Some x → out_of (Boolᵍ x) ≡ rule_or k o
   rule_says x h = rw (← eq, h)
-
-pub said_silent : (q : Rule) → OneOf (1 ∷ []) (tag_of the_type q) → out_of Stays ≡ rule_or (rule_in q) stays
-said_silent q h = rw (silent q h)
-
-pub said_says : (q : Rule) (x : Bool) → q ≡ Says x → out_of (Boolᵍ x) ≡ rule_or (rule_in q) stays
-said_says q x h = rw h
 
 -- a rule over what settles is what settles
 pub ruled_settles : (a l : List ℕ) (start n y : ℕ) (k : Bool) (q : Option Bool) (o : NOut) → ruled_of a l start y k q (settle_of a l start n y o) ≡ settle_of a l start n y (rule_or (unless_err k q) o)
@@ -178,35 +154,14 @@ module _ (sheet a b a' b' : List ℕ) (start bt n t e : ℕ) (room : Room b bt) 
         ← eg,
       ) z
 
-pub rule_one : (a b : List ℕ) (bt n t w : ℕ) (p q : Rule) → w ≡ word_at b bt 3 → rule_in p ≡ one_rule t a (get_or (rows_of a NODE) n []) w → rule_in q ≡ unless_err (errs (rows_of a NODE) b bt) (rule_in p)
+pub rule_one : (a b : List ℕ) (bt n t w : ℕ) (p q : Ruled) → w ≡ word_at b bt 3 → rule_in p ≡ one_rule t a (get_or (rows_of a NODE) n []) w → rule_in q ≡ unless_err (errs (rows_of a NODE) b bt) (rule_in p)
     → rule_in q ≡ unless_err (errs (rows_of a NODE) b bt) (one_rule t a (get_or (rows_of a NODE) n []) (word_at b bt 3))
 rule_one a b bt n t w p q ew ep eq = rw (← ew, ← ep) eq
 
 -- ---- `two`
 
-module _ (b : List ℕ) (mid bt : ℕ) where
-  module _ (s : Stage) (es : s ≡ stage_at b mid) where
-    pub pair_left : s ≡ Error → Tells Errorᵖ (stage_at b mid) (stage_at b bt)
-    pair_left h = record { is = λ g. rw (← es, h) }
-
-    module _ (u : Stage) (eu : u ≡ stage_at b bt) where
-      pub pair_values : (v w : ℕ) → s ≡ Value v → u ≡ Value w → Tells (Values v w) (stage_at b mid) (stage_at b bt)
-      pair_values v w h i = record { is = λ g. rw (← es, h, ← eu, i) }
-
-      pub pair_right : (v : ℕ) → s ≡ Value v → u ≡ Error → Tells Errorᵖ (stage_at b mid) (stage_at b bt)
-      pair_right v h i = record { is = λ g. rw (← es, h, ← eu, i) }
-
-      pub pair_half : (v : ℕ) → s ≡ Value v → u ≡ Open → Tells Openᵖ (stage_at b mid) (stage_at b bt)
-      pair_half v h i = record { is = λ g. rw (← es, h, ← eu, i) }
-
-      pub pair_open_value : (w : ℕ) → s ≡ Open → u ≡ Value w → Tells Openᵖ (stage_at b mid) (stage_at b bt)
-      pair_open_value w h i = record { is = λ g. rw (← es, h, ← eu, i) }
-
-      pub pair_open_error : s ≡ Open → u ≡ Error → Tells Errorᵖ (stage_at b mid) (stage_at b bt)
-      pair_open_error h i = record { is = λ g. rw (← es, h, ← eu, i) }
-
-      pub pair_open : s ≡ Open → u ≡ Open → Tells Openᵖ (stage_at b mid) (stage_at b bt)
-      pair_open h i = record { is = λ g. rw (← es, h, ← eu, i) }
+pub tells : (p : Pair) (s u : Stage) → ((g : ℕ → ℕ → NOut) → pair_out g p ≡ out_two g s u) → Tells p s u
+tells p s u h = record { is = h }
 
 module _ (a b : List ℕ) (mid bt t : ℕ) (p : Pair) (ep : Tells p (stage_at b mid) (stage_at b bt)) where
   abbrev Out₂ : Given → Type 0
@@ -293,6 +248,6 @@ module _ (a b a' b' : List ℕ) (start mid bt n t e : ℕ) (room : Room b bt) (o
         ← eg,
       ) z
 
-pub rule_two : (a b : List ℕ) (mid bt t u w : ℕ) (p o q : Rule) → u ≡ word_at b mid 3 → w ≡ word_at b bt 3 → rule_in p ≡ two_rule t a u w → rule_in o ≡ unless_err (errs (rows_of a NODE) b bt) (rule_in p)
+pub rule_two : (a b : List ℕ) (mid bt t u w : ℕ) (p o q : Ruled) → u ≡ word_at b mid 3 → w ≡ word_at b bt 3 → rule_in p ≡ two_rule t a u w → rule_in o ≡ unless_err (errs (rows_of a NODE) b bt) (rule_in p)
     → rule_in q ≡ unless_err (errs (rows_of a NODE) b mid) (rule_in o) → rule_in q ≡ unless_err (errs (rows_of a NODE) b mid || errs (rows_of a NODE) b bt) (two_rule t a (word_at b mid 3) (word_at b bt 3))
 rule_two a b mid bt t u w p o q eu ew ep eo eq = rw (← eu, ← ew, ← ep) (eq ∙ rw eo (unless_both (errs (rows_of a NODE) b mid) (errs (rows_of a NODE) b bt) (rule_in p)))

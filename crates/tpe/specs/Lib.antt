@@ -4,3 +4,4 @@ pub mod Classes
 pub mod Leaves
 pub mod Steps
 pub mod Gives
+pub mod Joins

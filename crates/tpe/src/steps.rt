@@ -1,4 +1,4 @@
-// What a node does once its operands are worked. They are the blocks from `start` to `top`, and what stands for them begins at `start`.
+// What a node does once its operands are worked. They are the log's blocks from `start` on, and what stands for them begins at `start`.
 // A node goes by its tag, which its caller has read; its row is read here.
 ghost use Rattle.std.specs.Prelude.{◌≡◌, ◌||◌, [], ◌+◌, ◌≤◌, ◌<◌, get_or, take, drop, length};
 ghost use Rattle.words.specs.Log.{part, appended, Room};
@@ -16,7 +16,9 @@ ghost use Rattle.residual.specs.Errs.{errs};
 ghost use Rattle.rules.specs.Rules.{rule_in, schema_at};
 ghost use Rattle.strict.specs.Gives.{out_of};
 ghost use Rattle.tpe.specs.Run.{left, left_of, made_of, settle_of, walk_from, entity_type, var_for, env_in, unmoved_of, stuck_of, walked_of, path_of};
-ghost use Rattle.tpe.specs.Leaves.{Leaves};
+ghost use Rattle.residual.specs.Logs.{held};
+ghost use Rattle.tpe.specs.Leaves.{Ends};
+ghost use Rattle.tpe.specs.Joins.{join_in};
 ghost use Rattle.tpe.specs.Steps.{one_at, two_at, many_at};
 ghost use Rattle.tpe.specs.Gives.{context_given, many_row, one_give, one_rule, two_give, two_rule, out_one, out_two, Tells, unless_err, rule_or, walk_in, Taken};
 
@@ -25,25 +27,24 @@ use forms::{
     ACTION, ALL, CONTAINS, CONTEXT, ENTITY_TYPE, EQ, GET, GETTAG, HAS, HASPATH, HASTAG, IN, IS,
     LIKE, MARK, MUL, NEG, NODE, NOT, PART_A, PART_P, PART_R, PRINCIPAL, RESOURCE, SET_OF, TYPE,
 };
-use residual::{
-    Stage, can_error_assuming_well_formed, push_error, push_left, push_value, stage_at, word_at,
-};
-use rules::{Rule, eq_rule, has_kind_rule, has_rule, hastag_rule, in_rule, is_rule};
+use residual::{Log, Stage};
+use rules::{eq_rule, has_kind_rule, has_rule, hastag_rule, in_rule, is_rule};
 use strict::entity::{get_of, gettag_of, has_of, hastag_of, in_of};
 use strict::{
     Given, all_of, any_of, arith_of, contains_of, empty_of, eq_of, is_of, like_of, neg_of, not_of,
 };
 use table::{base_of, count, item, row};
-use value::making::{make_entity, make_long, make_record, make_set, same};
+use value::making::{make_entity, make_long, make_record, make_set};
 use walk::{Walked, walk};
-use words::{append, read};
+use words::read;
 
 // How far the children of a set or record are worked: all are values, one is an error, or else one is open.
-pub const ALL_VALUES: u32 = 0;
-
-pub const SOME_ERROR: u32 = 1;
-
-pub const SOME_OPEN: u32 = 2;
+#[derive(Clone, Copy, PartialEq, Eq)]
+pub enum Joined {
+    Values,
+    Error,
+    Open,
+}
 
 // The type of a node.
 fn type_of(rows: &[u32], node: u32) -> u32
@@ -52,142 +53,121 @@ fn type_of(rows: &[u32], node: u32) -> u32
     item(row(rows, NODE, node), 1)
 }
 
-// A long found or made, as a value of type `ty` more on the log.
-fn give_long(rows: &mut [u32], log: &mut [u32], top: usize, word: u64, ty: u32) -> usize
-    requires { Room log.old top }
-    ensures { Leaves top rows.new log.new result (made_of rows.old (take top log.old) ty (long_row word)) }
+// A long found or made, as a value of type `ty` in the place of the blocks from `start` on.
+fn give_long(rows: &mut [u32], log: &mut Log, start: usize, word: u64, ty: u32)
+    requires { start ≤ log.old.top }
+    ensures { Ends start log.old rows.new log.new (made_of rows.old (take start log.old.words.now) ty (long_row word)) }
 {
     let v = make_long(rows, word);
-    push_value(log, top, v, ty)
+    log.push_value(start, v, ty);
 }
 
 // What an operation gives, in the place of the operands; the node stays where it gives nothing yet.
 fn settle(
     skip: usize,
     rows: &mut [u32],
-    log: &mut [u32],
+    log: &mut Log,
     start: usize,
-    top: usize,
     node: u32,
     ty: u32,
     given: Given,
-) -> usize
-    requires room { Room log.old top }
-    requires start_le_top { start ≤ top }
+)
+    requires start_le_top { start ≤ log.old.top }
     requires clear { Clear rows.old skip }
-    ensures { Leaves start rows.new log.new result (settle_of rows.old (take top log.old) start node ty (out_of given)) }
+    ensures { Ends start log.old rows.new log.new (settle_of rows.old (held log.old) start node ty (out_of given)) }
 {
     match given {
         Given::Bool(x) => give_bool(skip, rows, log, start, x, ty),
         Given::Long(w) => give_long(rows, log, start, w, ty),
-        Given::Old(v) => push_value(log, start, v, ty),
-        Given::Fails => push_error(log, start, ty),
-        Given::Stays => push_left(log, start, top, node, 0, ty),
+        Given::Old(v) => log.push_value(start, v, ty),
+        Given::Fails => log.push_error(start, ty),
+        Given::Stays => log.push_left(start, node, 0, ty),
     }
 }
 
 // The entity of the request's line of this key, at a node; the node stays where it is unknown.
-fn known_entity(
-    rows: &mut [u32],
-    log: &mut [u32],
-    top: usize,
-    node: u32,
-    ty: u32,
-    key: usize,
-) -> usize
-    requires { Room log.old top }
-    ensures { Leaves top rows.new log.new result (var_for partial [] rows.old (take top log.old) node ty (entity_given (get_or (rows_of rows.old key) 0 []))) }
+fn known_entity(rows: &mut [u32], log: &mut Log, node: u32, ty: u32, key: usize)
+    ensures { Ends log.old.top log.old rows.new log.new (var_for partial [] rows.old (held log.old) node ty (entity_given (get_or (rows_of rows.old key) 0 []))) }
 {
     let line = row(rows, key, 0);
     let kind = item(line, 1);
     let text = item(line, 2);
     if text == MARK {
-        return push_left(log, top, top, node, 0, ty);
+        log.push_left(log.top, node, 0, ty);
+        return;
     }
     let v = make_entity(rows, kind, text);
-    push_value(log, top, v, ty)
+    log.push_value(log.top, v, ty);
 }
 
 // The context of the request at a node, which stays where the context is unknown.
-fn known_context(rows: &[u32], log: &mut [u32], top: usize, node: u32, ty: u32) -> usize
-    requires { Room log.old top }
-    ensures { Leaves top rows.now log.new result (var_for partial [] rows.now (take top log.old) node ty (context_given (get_or (rows_of rows.now CONTEXT) 0 []))) }
+fn known_context(rows: &[u32], log: &mut Log, node: u32, ty: u32)
+    ensures { Ends log.old.top log.old rows.now log.new (var_for partial [] rows.now (held log.old) node ty (context_given (get_or (rows_of rows.now CONTEXT) 0 []))) }
 {
     let v = item(row(rows, CONTEXT, 0), 2);
     if v == MARK {
-        return push_left(log, top, top, node, 0, ty);
+        log.push_left(log.top, node, 0, ty);
+        return;
     }
-    push_value(log, top, v, ty)
+    log.push_value(log.top, v, ty);
 }
 
 // The part of the request that a letter names, at a node of type `ty`.
-pub fn var(rows: &mut [u32], log: &mut [u32], top: usize, node: u32, ty: u32, letter: u32) -> usize
-    requires { Room log.old top }
-    ensures { Leaves top rows.new log.new result (var_for partial [] rows.old (take top log.old) node ty ((env_in partial [] rows.old).request (var_of letter))) }
+pub fn var(rows: &mut [u32], log: &mut Log, node: u32, ty: u32, letter: u32)
+    ensures { Ends log.old.top log.old rows.new log.new (var_for partial [] rows.old (held log.old) node ty ((env_in partial [] rows.old).request (var_of letter))) }
 {
     match letter {
-        PART_P => known_entity(rows, log, top, node, ty, PRINCIPAL),
-        PART_A => known_entity(rows, log, top, node, ty, ACTION),
-        PART_R => known_entity(rows, log, top, node, ty, RESOURCE),
-        _ => known_context(rows, log, top, node, ty),
+        PART_P => known_entity(rows, log, node, ty, PRINCIPAL),
+        PART_A => known_entity(rows, log, node, ty, ACTION),
+        PART_R => known_entity(rows, log, node, ty, RESOURCE),
+        _ => known_context(rows, log, node, ty),
     }
 }
 
-// The set or the record, by its tag, of the values of a node.
+// The set or the record, by its tag, of the values of a node, whose blocks are those from `start` to `top`.
 fn make_many(
     rows: &mut [u32],
-    log: &mut [u32],
+    words: &mut [u32],
     start: usize,
     top: usize,
     node: u32,
     tag: u32,
 ) -> u32
-    requires room { Room log.old top }
+    requires room { Room words.old top }
     requires start_le_top { start ≤ top }
-    ensures { MadeBeside rows.old rows.new result top log.old log.new (many_row tag (get_or (rows_of rows.old NODE) node []) (part log.old start top)) }
+    ensures { MadeBeside rows.old rows.new result top words.old words.new (many_row tag (get_or (rows_of rows.old NODE) node []) (part words.old start top)) }
 {
     if tag <= SET_OF {
-        return make_set(rows, log, start, top);
+        return make_set(rows, words, start, top);
     }
-    make_record(rows, log, start, top, node)
+    make_record(rows, words, start, top, node)
 }
 
 // The set or record of a node, by its tag and by how far its children are worked.
-pub fn many(
-    rows: &mut [u32],
-    log: &mut [u32],
-    start: usize,
-    top: usize,
-    node: u32,
-    tag: u32,
-    joined: u32,
-) -> usize
-    requires room { Room log.old top }
-    requires start_le_top { start ≤ top }
-    ensures { Leaves start rows.new log.new result (many_at partial [] tag start node (get_or (rows_of rows.old NODE) node []) (record { words = rows.old; log = take top log.old; join = joined })) }
+pub fn many(rows: &mut [u32], log: &mut Log, start: usize, node: u32, tag: u32, joined: Joined)
+    requires start_le_top { start ≤ log.old.top }
+    ensures { Ends start log.old rows.new log.new (many_at partial [] tag start node (get_or (rows_of rows.old NODE) node []) (record { words = rows.old; log = held log.old; join = join_in joined })) }
 {
     let ty = type_of(rows, node);
     match joined {
-        ALL_VALUES => {
-            let v = make_many(rows, log, start, top, node, tag);
-            push_value(log, start, v, ty)
+        Joined::Values => {
+            let v = make_many(rows, log.words, start, log.top, node, tag);
+            log.push_value(start, v, ty);
         }
-        SOME_ERROR => push_error(log, start, ty),
-        _ => push_left(log, start, top, node, 0, ty),
+        Joined::Error => log.push_error(start, ty),
+        Joined::Open => log.push_left(start, node, 0, ty),
     }
 }
 
 // What a rule says, where the operand that ends at `end` cannot err.
-fn unless_err(rows: &[u32], log: &[u32], end: usize, rule: Rule) -> Rule
-    ensures { rule_in result ≡ unless_err (errs (rows_of rows.now NODE) log.now end) (rule_in rule) }
+fn unless_err(rows: &[u32], log: &Log, end: usize, rule: Option<bool>) -> Option<bool>
+    ensures { rule_in result ≡ unless_err (errs (rows_of rows.now NODE) log.now.words.now end) (rule_in rule) }
 {
-    let Rule::Says(x) = rule else {
-        return Rule::Silent;
-    };
-    if can_error_assuming_well_formed(rows, log, end) {
-        return Rule::Silent;
+    let said = rule?;
+    if log.can_error(rows, end) {
+        return None;
     }
-    Rule::Says(x)
+    Some(said)
 }
 
 // ---- one operand
@@ -222,7 +202,7 @@ fn give_one(sheet: &[u8], rows: &[u32], node: u32, tag: u32, value: u32) -> Give
 }
 
 // What the type rule of a node says of an operand of type `ty`.
-fn rule_one(rows: &[u32], node: u32, tag: u32, ty: u32) -> Rule
+fn rule_one(rows: &[u32], node: u32, tag: u32, ty: u32) -> Option<bool>
     ensures { rule_in result ≡ one_rule tag rows.now (get_or (rows_of rows.now NODE) node []) ty }
 {
     let x = item(row(rows, NODE, node), 3);
@@ -232,22 +212,22 @@ fn rule_one(rows: &[u32], node: u32, tag: u32, ty: u32) -> Rule
     if tag == HAS {
         return has_rule(rows, x, ty);
     }
-    Rule::Silent
+    None
 }
 
-// The same for the operand that ends at `top`, where it cannot err.
-fn ruled_one(rows: &[u32], log: &[u32], top: usize, node: u32, tag: u32) -> Rule
-    ensures { rule_in result ≡ unless_err (errs (rows_of rows.now NODE) log.now top) (one_rule tag rows.now (get_or (rows_of rows.now NODE) node []) (word_at log.now top 3)) }
+// The same for the operand, the last block, where it cannot err.
+fn ruled_one(rows: &[u32], log: &Log, node: u32, tag: u32) -> Option<bool>
+    ensures { rule_in result ≡ unless_err (errs (rows_of rows.now NODE) log.now.words.now log.now.top) (one_rule tag rows.now (get_or (rows_of rows.now NODE) node []) (word_at log.now.words.now log.now.top 3)) }
 {
-    let q = rule_one(rows, node, tag, word_at(log, top, 3));
-    unless_err(rows, log, top, q)
+    let q = rule_one(rows, node, tag, log.type_at(log.top));
+    unless_err(rows, log, log.top, q)
 }
 
 // What a node gives by its operand alone.
-fn given_one(sheet: &[u8], rows: &[u32], log: &[u32], top: usize, node: u32, tag: u32) -> Given
-    ensures { out_of result ≡ out_one (one_give sheet.now tag rows.now (get_or (rows_of rows.now NODE) node [])) (stage_at log.now top) }
+fn given_one(sheet: &[u8], rows: &[u32], log: &Log, node: u32, tag: u32) -> Given
+    ensures { out_of result ≡ out_one (one_give sheet.now tag rows.now (get_or (rows_of rows.now NODE) node [])) (stage_at log.now.words.now log.now.top) }
 {
-    match stage_at(log, top) {
+    match log.stage() {
         Stage::Value(v) => give_one(sheet, rows, node, tag, v),
         Stage::Error => Given::Fails,
         Stage::Open => Given::Stays,
@@ -255,14 +235,13 @@ fn given_one(sheet: &[u8], rows: &[u32], log: &[u32], top: usize, node: u32, tag
 }
 
 // What its type rule says, or else what it gives.
-fn asked_one(sheet: &[u8], rows: &[u32], log: &[u32], top: usize, node: u32, tag: u32) -> Given
-    ensures { out_of result ≡ rule_or (unless_err (errs (rows_of rows.now NODE) log.now top) (one_rule tag rows.now (get_or (rows_of rows.now NODE) node []) (word_at log.now top 3))) (out_one (one_give sheet.now tag rows.now (get_or (rows_of rows.now NODE) node [])) (stage_at log.now top)) }
+fn asked_one(sheet: &[u8], rows: &[u32], log: &Log, node: u32, tag: u32) -> Given
+    ensures { out_of result ≡ rule_or (unless_err (errs (rows_of rows.now NODE) log.now.words.now log.now.top) (one_rule tag rows.now (get_or (rows_of rows.now NODE) node []) (word_at log.now.words.now log.now.top 3))) (out_one (one_give sheet.now tag rows.now (get_or (rows_of rows.now NODE) node [])) (stage_at log.now.words.now log.now.top)) }
 {
-    let q = ruled_one(rows, log, top, node, tag);
-    let Rule::Says(x) = q else {
-        return given_one(sheet, rows, log, top, node, tag);
-    };
-    Given::Bool(x)
+    match ruled_one(rows, log, node, tag) {
+        Some(x) => Given::Bool(x),
+        None => given_one(sheet, rows, log, node, tag),
+    }
 }
 
 // ---- a path
@@ -271,17 +250,14 @@ fn asked_one(sheet: &[u8], rows: &[u32], log: &[u32], top: usize, node: u32, tag
 fn entity_type(rows: &[u32], kind: u32) -> u32
     ensures { result ≡ entity_type rows.now kind }
 {
+    let line = [ENTITY_TYPE, kind];
     let n = count(rows, TYPE);
-    let mut i: u32 = 0;
-    loop {
-        if i >= n {
-            break n;
+    for i in 0..n {
+        if row(rows, TYPE, i) == &line[..] {
+            return i;
         }
-        if same(row(rows, TYPE, i), &[ENTITY_TYPE, kind]) {
-            break i;
-        }
-        i += 1;
     }
+    n
 }
 
 // The path of a node from a value on; an unlisted entity is unknown.
@@ -312,99 +288,77 @@ fn taken(rows: &[u32], node: u32, steps: usize) -> u32
 // A node after some steps, over `value`, an entity of this kind.
 fn push_rest(
     rows: &[u32],
-    log: &mut [u32],
+    log: &mut Log,
     start: usize,
     node: u32,
     ty: u32,
     steps: u32,
     value: u32,
     kind: u32,
-) -> usize
-    requires room { Room log.old start }
+)
+    requires start_le_top { start ≤ log.old.top }
     requires steps_bound { steps < 4294967294 }
-    ensures { Leaves start rows.now log.new result (left_of rows.now (appended (take start log.old) (lit_row value (entity_type rows.now kind))) (length (take start log.old)) node steps ty) }
+    ensures { Ends start log.old rows.now log.new (left_of rows.now (appended (take start log.old.words.now) (lit_row value (entity_type rows.now kind))) (length (take start log.old.words.now)) node steps ty) }
 {
-    let p = push_value(log, start, value, entity_type(rows, kind));
-    let r = [2 + steps, node, (p - start) as u32 + 4, ty];
-    append(log, p, &r)
+    log.push_value(start, value, entity_type(rows, kind));
+    log.push_left(start, node, steps, ty);
 }
 
 // A path stuck after some steps at `value`, an entity of this kind. The type rule decides by the next step.
 fn stuck(
     skip: usize,
     rows: &mut [u32],
-    log: &mut [u32],
+    log: &mut Log,
     start: usize,
     node: u32,
     steps: u32,
     value: u32,
     kind: u32,
-) -> usize
-    requires room { Room log.old start }
+)
+    requires start_le_top { start ≤ log.old.top }
     requires steps_bound { steps < 4294967294 }
     requires clear { Clear rows.old skip }
-    ensures { Leaves start rows.new log.new result (stuck_of partial [] rows.old (take start log.old) node (get_or (rows_of rows.old NODE) node []) steps value kind (has_rule (schema_at rows.old) (at (get_or (rows_of rows.old NODE) node []) (2 + steps)) (alone kind))) }
+    ensures { Ends start log.old rows.new log.new (stuck_of partial [] rows.old (take start log.old.words.now) node (get_or (rows_of rows.old NODE) node []) steps value kind (has_rule (schema_at rows.old) (at (get_or (rows_of rows.old NODE) node []) (2 + steps)) (alone kind))) }
 {
     let r = row(rows, NODE, node);
     let ty = item(r, 1);
-    let q = has_kind_rule(rows, item(r, 3 + steps as usize), kind);
-    let Rule::Says(x) = q else {
-        return push_rest(rows, log, start, node, ty, steps, value, kind);
-    };
-    give_bool(skip, rows, log, start, x, ty)
+    match has_kind_rule(rows, item(r, 3 + steps as usize), kind) {
+        Some(x) => give_bool(skip, rows, log, start, x, ty),
+        None => push_rest(rows, log, start, node, ty, steps, value, kind),
+    }
 }
 
 // What a rule says; a node stays where it says nothing.
-fn said(rule: Rule) -> Given
+fn said(rule: Option<bool>) -> Given
     ensures { out_of result ≡ rule_or (rule_in rule) stays }
 {
-    let Rule::Says(x) = rule else {
-        return Given::Stays;
-    };
-    Given::Bool(x)
+    rule.map_or(Given::Stays, Given::Bool)
 }
 
 // A path of which no step is taken: its operand stays. The type rule of its first step decides where the operand cannot err.
-fn unmoved(
-    skip: usize,
-    rows: &mut [u32],
-    log: &mut [u32],
-    start: usize,
-    top: usize,
-    node: u32,
-) -> usize
-    requires room { Room log.old top }
-    requires start_le_top { start ≤ top }
+fn unmoved(skip: usize, rows: &mut [u32], log: &mut Log, start: usize, node: u32)
+    requires start_le_top { start ≤ log.old.top }
     requires clear { Clear rows.old skip }
-    ensures { Leaves start rows.new log.new result (unmoved_of partial [] rows.old (take top log.old) start node (get_or (rows_of rows.old NODE) node [])) }
+    ensures { Ends start log.old rows.new log.new (unmoved_of partial [] rows.old (held log.old) start node (get_or (rows_of rows.old NODE) node [])) }
 {
-    let given = said(ruled_one(rows, log, top, node, HAS));
+    let given = said(ruled_one(rows, log, node, HAS));
     let ty = type_of(rows, node);
-    settle(skip, rows, log, start, top, node, ty, given)
+    settle(skip, rows, log, start, node, ty, given)
 }
 
 // A path from a value on, its operand. With no step taken the operand keeps its own type.
-fn path_from(
-    skip: usize,
-    rows: &mut [u32],
-    log: &mut [u32],
-    start: usize,
-    top: usize,
-    node: u32,
-    value: u32,
-) -> usize
-    requires room { Room log.old top }
-    requires start_le_top { start ≤ top }
+fn path_from(skip: usize, rows: &mut [u32], log: &mut Log, start: usize, node: u32, value: u32)
+    requires start_le_top { start ≤ log.old.top }
     requires clear { Clear rows.old skip }
-    ensures { Leaves start rows.new log.new result (walked_of partial [] rows.old (take top log.old) start node (get_or (rows_of rows.old NODE) node []) (walk_from (env_in partial [] rows.old) (rows_in (value_lines rows.old)) (drop 3 (items (get_or (rows_of rows.old NODE) node []))) (at (get_or (rows_of rows.old NODE) node []) 2) value 0)) }
+    ensures { Ends start log.old rows.new log.new (walked_of partial [] rows.old (held log.old) start node (get_or (rows_of rows.old NODE) node []) (walk_from (env_in partial [] rows.old) (rows_in (value_lines rows.old)) (drop 3 (items (get_or (rows_of rows.old NODE) node []))) (at (get_or (rows_of rows.old NODE) node []) 2) value 0)) }
 {
     let ty = type_of(rows, node);
     match walked(rows, node, value) {
         Walked::Holds(x) => give_bool(skip, rows, log, start, x, ty),
-        Walked::Fails => push_error(log, start, ty),
+        Walked::Fails => log.push_error(start, ty),
         Walked::Left(w, k, j) => {
             if j == 0 {
-                return unmoved(skip, rows, log, start, top, node);
+                return unmoved(skip, rows, log, start, node);
             }
             let i = taken(rows, node, j);
             stuck(skip, rows, log, start, node, i, w, k)
@@ -413,23 +367,15 @@ fn path_from(
 }
 
 // Whether a node has its path from its operand on.
-fn path(
-    skip: usize,
-    rows: &mut [u32],
-    log: &mut [u32],
-    start: usize,
-    top: usize,
-    node: u32,
-) -> usize
-    requires room { Room log.old top }
-    requires start_le_top { start ≤ top }
+fn path(skip: usize, rows: &mut [u32], log: &mut Log, start: usize, node: u32)
+    requires start_le_top { start ≤ log.old.top }
     requires clear { Clear rows.old skip }
-    ensures { Leaves start rows.new log.new result (path_of partial [] start node (get_or (rows_of rows.old NODE) node []) (left rows.old (take top log.old))) }
+    ensures { Ends start log.old rows.new log.new (path_of partial [] start node (get_or (rows_of rows.old NODE) node []) (left rows.old (held log.old))) }
 {
-    match stage_at(log, top) {
-        Stage::Value(v) => path_from(skip, rows, log, start, top, node, v),
-        Stage::Error => push_error(log, start, type_of(rows, node)),
-        Stage::Open => unmoved(skip, rows, log, start, top, node),
+    match log.stage() {
+        Stage::Value(v) => path_from(skip, rows, log, start, node, v),
+        Stage::Error => log.push_error(start, type_of(rows, node)),
+        Stage::Open => unmoved(skip, rows, log, start, node),
     }
 }
 
@@ -438,23 +384,21 @@ pub fn one(
     sheet: &[u8],
     skip: usize,
     rows: &mut [u32],
-    log: &mut [u32],
+    log: &mut Log,
     start: usize,
-    top: usize,
     node: u32,
     tag: u32,
-) -> usize
-    requires room { Room log.old top }
-    requires start_le_top { start ≤ top }
+)
+    requires start_le_top { start ≤ log.old.top }
     requires clear { Clear rows.old skip }
-    ensures { Leaves start rows.new log.new result (one_at partial sheet.now tag start node (get_or (rows_of rows.old NODE) node []) (left rows.old (take top log.old))) }
+    ensures { Ends start log.old rows.new log.new (one_at partial sheet.now tag start node (get_or (rows_of rows.old NODE) node []) (left rows.old (held log.old))) }
 {
     if tag == HASPATH {
-        return path(skip, rows, log, start, top, node);
+        return path(skip, rows, log, start, node);
     }
-    let given = asked_one(sheet, rows, log, top, node, tag);
+    let given = asked_one(sheet, rows, log, node, tag);
     let ty = type_of(rows, node);
-    settle(skip, rows, log, start, top, node, ty, given)
+    settle(skip, rows, log, start, node, ty, given)
 }
 
 // ---- two operands
@@ -480,7 +424,7 @@ fn give_two(rows: &[u32], tag: u32, left: u32, right: u32) -> Given
 }
 
 // What the type rule says of operands of types `left` and `right`.
-fn rule_two(rows: &[u32], tag: u32, left: u32, right: u32) -> Rule
+fn rule_two(rows: &[u32], tag: u32, left: u32, right: u32) -> Option<bool>
     ensures { rule_in result ≡ two_rule tag rows.now left right }
 {
     if tag <= EQ {
@@ -489,16 +433,16 @@ fn rule_two(rows: &[u32], tag: u32, left: u32, right: u32) -> Rule
     match tag {
         IN => in_rule(rows, left, right),
         HASTAG => hastag_rule(rows, left),
-        _ => Rule::Silent,
+        _ => None,
     }
 }
 
-// The same for the operands that end at `mid` and `top`, where neither can err.
-fn ruled_two(rows: &[u32], log: &[u32], mid: usize, top: usize, tag: u32) -> Rule
-    ensures { rule_in result ≡ unless_err (errs (rows_of rows.now NODE) log.now mid || errs (rows_of rows.now NODE) log.now top) (two_rule tag rows.now (word_at log.now mid 3) (word_at log.now top 3)) }
+// The same for the operands that end at `mid` and the log's end, where neither can err.
+fn ruled_two(rows: &[u32], log: &Log, mid: usize, tag: u32) -> Option<bool>
+    ensures { rule_in result ≡ unless_err (errs (rows_of rows.now NODE) log.now.words.now mid || errs (rows_of rows.now NODE) log.now.words.now log.now.top) (two_rule tag rows.now (word_at log.now.words.now mid 3) (word_at log.now.words.now log.now.top 3)) }
 {
-    let q = rule_two(rows, tag, word_at(log, mid, 3), word_at(log, top, 3));
-    unless_err(rows, log, mid, unless_err(rows, log, top, q))
+    let q = rule_two(rows, tag, log.type_at(mid), log.type_at(log.top));
+    unless_err(rows, log, mid, unless_err(rows, log, log.top, q))
 }
 
 // How far two operands are worked.
@@ -509,32 +453,23 @@ pub enum Pair {
     Open,
 }
 
-// How far the operands that end at `mid` and `top` are worked: one that is an error is the result, also beside an open one.
-fn pair_at(log: &[u32], mid: usize, top: usize) -> Pair
-    ensures { Tells result (stage_at log.now mid) (stage_at log.now top) }
+// How far the operands are worked, of which the left one ends at `mid` and the right one is the last block: one that is an error is the result, also beside an open one.
+#[tactic(auto, using(crate::proofs::Worked::tells))]
+fn pair_at(log: &Log, mid: usize) -> Pair
+    ensures { Tells result (stage_at log.now.words.now mid) (stage_at log.now.words.now log.now.top) }
 {
-    let s = stage_at(log, mid);
-    let t = stage_at(log, top);
-    match s {
-        Stage::Error => Pair::Error,
-        Stage::Value(v) => match t {
-            Stage::Value(w) => Pair::Values(v, w),
-            Stage::Error => Pair::Error,
-            Stage::Open => Pair::Open,
-        },
-        Stage::Open => match t {
-            Stage::Value(_) => Pair::Open,
-            Stage::Error => Pair::Error,
-            Stage::Open => Pair::Open,
-        },
+    match (log.stage_at(mid), log.stage()) {
+        (Stage::Value(v), Stage::Value(w)) => Pair::Values(v, w),
+        (Stage::Error, _) | (_, Stage::Error) => Pair::Error,
+        _ => Pair::Open,
     }
 }
 
 // What a node gives by its operands alone, the left of which ends at `mid`.
-fn given_two(rows: &[u32], log: &[u32], mid: usize, top: usize, tag: u32) -> Given
-    ensures { out_of result ≡ out_two (two_give tag rows.now) (stage_at log.now mid) (stage_at log.now top) }
+fn given_two(rows: &[u32], log: &Log, mid: usize, tag: u32) -> Given
+    ensures { out_of result ≡ out_two (two_give tag rows.now) (stage_at log.now.words.now mid) (stage_at log.now.words.now log.now.top) }
 {
-    match pair_at(log, mid, top) {
+    match pair_at(log, mid) {
         Pair::Values(v, w) => give_two(rows, tag, v, w),
         Pair::Error => Given::Fails,
         Pair::Open => Given::Stays,
@@ -542,33 +477,30 @@ fn given_two(rows: &[u32], log: &[u32], mid: usize, top: usize, tag: u32) -> Giv
 }
 
 // What its type rule says, or else what it gives.
-fn asked_two(rows: &[u32], log: &[u32], mid: usize, top: usize, tag: u32) -> Given
-    ensures { out_of result ≡ rule_or (unless_err (errs (rows_of rows.now NODE) log.now mid || errs (rows_of rows.now NODE) log.now top) (two_rule tag rows.now (word_at log.now mid 3) (word_at log.now top 3))) (out_two (two_give tag rows.now) (stage_at log.now mid) (stage_at log.now top)) }
+fn asked_two(rows: &[u32], log: &Log, mid: usize, tag: u32) -> Given
+    ensures { out_of result ≡ rule_or (unless_err (errs (rows_of rows.now NODE) log.now.words.now mid || errs (rows_of rows.now NODE) log.now.words.now log.now.top) (two_rule tag rows.now (word_at log.now.words.now mid 3) (word_at log.now.words.now log.now.top 3))) (out_two (two_give tag rows.now) (stage_at log.now.words.now mid) (stage_at log.now.words.now log.now.top)) }
 {
-    let q = ruled_two(rows, log, mid, top, tag);
-    let Rule::Says(x) = q else {
-        return given_two(rows, log, mid, top, tag);
-    };
-    Given::Bool(x)
+    match ruled_two(rows, log, mid, tag) {
+        Some(x) => Given::Bool(x),
+        None => given_two(rows, log, mid, tag),
+    }
 }
 
 // An operation on two operands, the left of which ends at `mid`. Its type rule decides where neither can err.
 pub fn two(
     skip: usize,
     rows: &mut [u32],
-    log: &mut [u32],
+    log: &mut Log,
     start: usize,
     mid: usize,
-    top: usize,
     node: u32,
     tag: u32,
-) -> usize
-    requires room { Room log.old top }
-    requires start_le_mid { (start ≤ mid) × (mid ≤ top) }
+)
+    requires start_le_mid { (start ≤ mid) × (mid ≤ log.old.top) }
     requires clear { Clear rows.old skip }
-    ensures { Leaves start rows.new log.new result (two_at partial [] tag start mid node (get_or (rows_of rows.old NODE) node []) (left rows.old (take top log.old))) }
+    ensures { Ends start log.old rows.new log.new (two_at partial [] tag start mid node (get_or (rows_of rows.old NODE) node []) (left rows.old (held log.old))) }
 {
-    let given = asked_two(rows, log, mid, top, tag);
+    let given = asked_two(rows, log, mid, tag);
     let ty = type_of(rows, node);
-    settle(skip, rows, log, start, top, node, ty, given)
+    settle(skip, rows, log, start, node, ty, given)
 }

@@ -1,5 +1,6 @@
 -- What a call is lent in a trial, and what must have come back.
-use Rattle.std.specs.Prelude.{◌≡◌, Bool, true, cond, ◌&&◌, List, [], ◌∷◌, ℕ, eqb, length, take, drop, replicate}
+use Rattle.std.specs.Prelude.{◌≡◌, Bool, cond, ◌&&◌, List, ℕ, eqb, length, take, drop, replicate}
+use Rattle.std.specs.List.{list_all}
 use Rattle.sheet.specs.Forms.{Mode, partial, complete}
 
 -- what stands in every lent word and byte before a call
@@ -12,9 +13,9 @@ marks n = replicate n mark
 unfoldable pub entry_of : ℕ → Mode
 entry_of n = cond (eqb n 1) complete partial
 
+-- all of them are x
 abbrev pub every : ℕ → List ℕ → Bool
-every x [] = true
-every x (y ∷ l) = eqb y x && every x l
+every x l = list_all (λ y. eqb y x) l
 
 -- "After 1 the work slices are untouched, otherwise their first 16,384 words are 0 and the rest untouched"
 unfoldable pub words_kept : ℕ → List ℕ → Bool

@@ -1,17 +1,20 @@
 // Calls tried by running: records from standard input, slices and buffers that hold a mark before a call and are looked at after it.
 #![tactic(auto)]
 
-ghost use Rattle.std.specs.Prelude.{◌≡◌, cond, ◌≤◌, length, drop};
+ghost use Rattle.std.specs.Prelude.{◌≡◌, cond, ◌≤◌, ℕ, List, length, take, drop, MatchOption};
 ghost use Rattle.authorizer.specs.Called.{Called};
 ghost use Rattle.trial.specs.Lent.{mark, marks, entry_of, every, words_kept, Taken};
+ghost use Rattle.trial.specs.Lending.{IsTooMuch, Lends};
 
 use authorizer::{Returned, complete, partial};
-use scan::{front, rest};
+use scan::front;
 use streams::read_full;
 use words::{ROOM, cut};
 
 // What stands in every lent word and byte before a call.
 const MARK: u8 = 165;
+
+const MARKED: u32 = MARK as u32;
 
 // ---- reading: what stands on standard input is free
 
@@ -26,21 +29,12 @@ fn next(rt: &impl Input) -> u8 {
 pub fn number(rt: &impl Input) -> usize
     ensures { result ≤ 9999999 }
 {
-    let mut n: usize = 0;
-    let mut i: u32 = 0;
-    while i < 8 {
-        let b = next(rt);
-        if b < 48 {
-            return n;
+    let mut n = 0;
+    for _ in 0..8 {
+        match next(rt) {
+            b @ b'0'..=b'9' if n <= 999999 => n = n * 10 + usize::from(b - b'0'),
+            _ => return n,
         }
-        if b > 57 {
-            return n;
-        }
-        if n > 999999 {
-            return n;
-        }
-        n = n * 10 + (b - 48) as usize;
-        i += 1;
     }
     n
 }
@@ -54,29 +48,15 @@ pub fn take(rt: &impl Input, space: &mut [u8], n: usize)
     }
 }
 
+// The same, and these bytes of the space.
+pub fn taken<'a>(rt: &impl Input, space: &'a mut [u8], n: usize) -> &'a [u8]
+    ensures { (is : List ℕ) × Taken space.old n is × (result.now ≡ take n is) }
+{
+    take(rt, space, n);
+    front(space, n)
+}
+
 // ---- the call
-
-// The mark in every word.
-pub fn mark_words(words: &mut [u32])
-    ensures { words.new ≡ marks (length words.old) }
-{
-    let mut i = 0;
-    while i < words.len() {
-        words[i] = MARK as u32;
-        i += 1;
-    }
-}
-
-// The mark in every byte.
-pub fn mark_bytes(out: &mut [u8])
-    ensures { out.new ≡ marks (length out.old) }
-{
-    let mut i = 0;
-    while i < out.len() {
-        out[i] = MARK;
-        i += 1;
-    }
-}
 
 // The call of an entry, 0 partial and 1 complete, in marked slices.
 pub fn call(
@@ -88,56 +68,33 @@ pub fn call(
 ) -> Returned
     ensures { Called (entry_of entry) sheet.now (marks (length work1.old)) (marks (length work2.old)) (marks (length out.old)) result.number result.line result.length out.new work1.new work2.new }
 {
-    mark_words(work1);
-    mark_words(work2);
-    mark_bytes(out);
-    if entry == 1 {
-        return complete(sheet, work1, work2, out);
+    work1.fill(MARKED);
+    work2.fill(MARKED);
+    out.fill(MARK);
+    match entry {
+        1 => complete(sheet, work1, work2, out),
+        _ => partial(sheet, work1, work2, out),
     }
-    partial(sheet, work1, work2, out)
 }
 
 // ---- what came back
 
 // Whether every word is x.
-fn every_word(words: &[u32], x: u32) -> bool
+fn is_every(words: &[u32], x: u32) -> bool
     ensures { result ≡ every x words.now }
 {
-    let mut i = 0;
-    while i < words.len() {
-        if words[i] != x {
-            return false;
-        }
-        i += 1;
-    }
-    true
-}
-
-// Whether every byte is x.
-fn every_byte(bytes: &[u8], x: u8) -> bool
-    ensures { result ≡ every x bytes.now }
-{
-    let mut i = 0;
-    while i < bytes.len() {
-        if bytes[i] != x {
-            return false;
-        }
-        i += 1;
-    }
-    true
+    words.iter().all(|&word| word == x)
 }
 
 // Whether a marked work slice came back as promised, after a call that returned a number.
+#[tactic(auto, unfolding(crate::specs::Lent::words_kept))]
 pub fn words_kept(number: u32, words: &[u32]) -> bool
     ensures { result ≡ words_kept number words.now }
 {
     if number == 1 {
-        return every_word(words, MARK as u32);
+        return is_every(words, MARKED);
     }
-    if !every_word(cut(words, 0, ROOM), 0) {
-        return false;
-    }
-    every_word(cut(words, ROOM, words.len()), MARK as u32)
+    is_every(cut(words, 0, ROOM), 0) && is_every(cut(words, ROOM, words.len()), MARKED)
 }
 
 // How many bytes of the buffer have changed.
@@ -151,37 +108,94 @@ pub fn written(accepted: bool, length: usize) -> usize
 pub fn bytes_kept(out: &[u8], from: usize) -> bool
     ensures { result ≡ every mark (drop from out.now) }
 {
-    every_byte(rest(out, from), MARK)
+    out.iter().skip(from).all(|&byte| byte == MARK)
+}
+
+// ---- what is lent
+
+// The words of each work slice and the bytes of the buffer that a record lends,
+#[derive(Clone, Copy)]
+pub struct Lengths {
+    pub first: usize,
+    pub second: usize,
+    pub buffer: usize,
+}
+
+// and so many at most.
+pub const WORDS: usize = 16400;
+
+pub const BYTES: usize = 65536;
+
+// What a call says in marked slices and a marked buffer of these lengths, where there is so much to lend.
+pub fn lend<T, C: FnOnce(&mut [u32], &mut [u32], &mut [u8]) -> T>(
+    lengths: Lengths,
+    call: C,
+) -> Option<T>
+    requires { C.IsAlwaysCallable call }
+    ensures { MatchOption result (IsTooMuch lengths) (λ said. Lends C.FnOnce call lengths said) }
+{
+    if lengths.first > WORDS || lengths.second > WORDS || lengths.buffer > BYTES {
+        return None;
+    }
+    let mut first = [MARKED; WORDS];
+    let mut second = [MARKED; WORDS];
+    let mut out = [MARK; BYTES];
+    Some(call(
+        &mut first[..lengths.first],
+        &mut second[..lengths.second],
+        &mut out[..lengths.buffer],
+    ))
 }
 
 // ---- what is printed of it
 
-// A number after a text.
-fn show(rt: &impl Print, text: &[u8], n: u64) {
-    let _ = rt.write_all(text);
-    let _ = rt.print(n);
-}
-
-// What was lent, and whether it came back as promised.
-fn came_back(rt: &impl Print, lent: &[u8], kept: bool) {
-    let _ = rt.write_all(lent);
-    if kept {
-        let _ = rt.write_all(b" kept");
-    } else {
-        let _ = rt.write_all(b" NOT KEPT");
-    }
+// How what was lent came back.
+fn came_back(kept: bool) -> &'static str {
+    if kept { "kept" } else { "NOT KEPT" }
 }
 
 // A line with what a call returned, and whether what was lent came back as promised; then the answer. It only writes, and no contract can speak of
 // what the system's write moves; what is written is held to the file `stdout` of the program that calls it.
 pub fn report(rt: &impl Print, r: Returned, a: &[u32], b: &[u32], out: &[u8]) {
     let n = written(r.number == 0, r.length);
-    show(rt, b": ", r.number as u64);
-    show(rt, b",", r.line as u64);
-    show(rt, b",", r.length as u64);
-    came_back(rt, b"; first slice", words_kept(r.number, a));
-    came_back(rt, b", second slice", words_kept(r.number, b));
-    came_back(rt, b", buffer", bytes_kept(out, n));
-    let _ = rt.write_all(b"\n");
+    let _ = println!(rt;
+        ": {},{},{}; first slice {}, second slice {}, buffer {}",
+        r.number,
+        r.line,
+        r.length,
+        came_back(words_kept(r.number, a)),
+        came_back(words_kept(r.number, b)),
+        came_back(bytes_kept(out, n))
+    );
     let _ = rt.write_all(front(out, n));
+}
+
+// ---- records
+
+// What the line of a record says after the bytes of the record's name, which is printed: two numbers and what is lent.
+pub fn heading(rt: &(impl Input + Print)) -> (usize, usize, Lengths) {
+    let named = number(rt);
+    let (one, other) = (number(rt), number(rt));
+    let lengths = Lengths {
+        first: number(rt),
+        second: number(rt),
+        buffer: number(rt),
+    };
+    let mut name = [0u8; 64];
+    let _ = rt.write_all(taken(rt, &mut name, named));
+    (one, other, lengths)
+}
+
+// A call in what is lent, and the report of it, where there is so much to lend.
+pub fn try_call<C: FnOnce(&mut [u32], &mut [u32], &mut [u8]) -> Returned>(
+    rt: &impl Print,
+    lengths: Lengths,
+    call: C,
+)
+    requires { C.IsAlwaysCallable call }
+{
+    lend(lengths, |a, b, out| {
+        let r = call(a, b, out);
+        report(rt, r, a, b, out);
+    });
 }

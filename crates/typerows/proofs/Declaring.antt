@@ -7,7 +7,7 @@ use borrow.Author.Tests.{not-true, not-false}
 use lib.Dec.{eqb}
 use lib.ListN.{replicate}
 use Rattle.words.specs.Bits.{member, added}
-use mathlib.Core.Path.{◌≡◌, sym, ap, ◌∙◌}
+use mathlib.Core.Path.{◌≡◌, sym, ◌∙◌}
 use mathlib.Core.Bool.{Bool, true, false, not}
 use mathlib.Core.List.{List}
 use mathlib.Core.Option.{none, some}
@@ -15,32 +15,23 @@ use Prim.Native.Nat.{ℕ}
 use borrow.Author.Tests.{not-true, not-false}
 use lib.Dec.{eqb}
 use Rattle.fits.specs.Fit.{found_in}
-use Rattle.fits.specs.declared.Found as F
+use Rattle.std.specs.Prelude.{Option, Some, None}
+use Rattle.std.specs.Option.{option_eq}
 use Rattle.typesets.specs.Sets.{TYPE_WORDS, Each}
 use Rattle.typesets.proofs.Members.{each_zeros, seen_is, each_added}
 use Rattle.typerows.specs.Types.{record_at, attribute_at, of_record, declares_as}
 
 -- ---- what a record type declares
 
-module _ (a : List ℕ) (z t o : ℕ) (f : F.Found) (ef : found_in f ≡ record_at a z) where
-  pub declares_none : f ≡ F.TheVariants.Undeclared → false ≡ of_record a (declares_as a t o) z
+module _ (a : List ℕ) (z t o : ℕ) where
+  pub declares_none : none ≡ record_at a z → false ≡ of_record a (declares_as a t o) z
   unfolding of_record
-  declares_none h = let e : record_at a z ≡ none = sym ef ∙ ap found_in h in rw e
+  declares_none e = rw (← e)
 
-  module _ (y : ℕ) (g : F.Found) (h : f ≡ F.TheVariants.As y) (eg : found_in g ≡ attribute_at a y t) where
-    pub declares_not : g ≡ F.TheVariants.Undeclared → false ≡ of_record a (declares_as a t o) z
-    unfolding of_record declares_as
-    declares_not k =
-        let e : record_at a z ≡ some y = sym ef ∙ ap found_in h in
-        let d : attribute_at a y t ≡ none = sym eg ∙ ap found_in k in
-        rw (e, d)
-
-    pub declares_some : (x : ℕ) → g ≡ F.TheVariants.As x → eqb o x ≡ of_record a (declares_as a t o) z
-    unfolding of_record declares_as
-    declares_some x k =
-        let e : record_at a z ≡ some y = sym ef ∙ ap found_in h in
-        let d : attribute_at a y t ≡ some x = sym eg ∙ ap found_in k in
-        rw (e, d)
+  pub declares_is : (y : ℕ) (g : Option ℕ) (b : Bool) → some y ≡ record_at a z → found_in g ≡ attribute_at a y t → b ≡ option_eq eqb (Some o) g → b ≡ of_record a (declares_as a t o) z
+  unfolding of_record declares_as
+  declares_is y None b e eg q = rw (← e, ← eg) q
+  declares_is y (Some x) b e eg q = rw (← e, ← eg) q
 
 -- ---- record types
 

@@ -1,67 +1,57 @@
 -- A test of each kind of an entity type: what is left of its row decides the whole. What each kind of a type, or a record type, is asked.
 use mathlib.Core.Path.{◌≡◌, sym, ap, ◌∙◌}
-use mathlib.Core.Bool.{Bool, true, false, not, ◌&&◌}
+use mathlib.Core.Bool.{Bool, true, false, ◌&&◌}
 use mathlib.Core.List.{List, []}
 use Prim.Native.Nat.{ℕ, ◌+◌, ◌≤◌, ◌<◌}
-use native.Mathlib.Omega.{arith}
-use borrow.Author.Tests.{eq-eqb, ne_eqb, not-true, not-false}
-use lib.Dec.{eqb}
-use lib.ListN.{get_or}
+use native.Mathlib.Numerals.{add-one}
+use lib.ListN.{length, get_or, drop, drop_of_length-le}
+use lib.Seq.{drop-cons}
 use Rattle.sheet.specs.Forms.{tag, TYPE}
 use Rattle.sheet.specs.Typing.{all_in}
 use Rattle.forms.specs.Tags.{ENTITY_TYPE}
 use Rattle.table.specs.Layout.{rows_of}
-use Rattle.fits.specs.Fit.{kinds_in, kinds_from, kinds_end}
-use Rattle.fits.proofs.KindLaws.{kinds_first, kinds_next, kinds_end_law}
+use Rattle.fits.specs.Fit.{kinds_in}
 use Rattle.typerows.proofs.Typings.{kinds_is, kinds_not}
-use Rattle.typerows.specs.Types.{attribute_type_at, tag_type_at, of_record, of_kind, each_at, tags_are}
+use Rattle.typerows.specs.Types.{attribute_type_at, of_record, of_kind, each_at}
 
--- the kinds of row q from word i on decide whether each passes f
-pub record Kinds (f : ℕ → Bool) (q : List ℕ) (i : ℕ) : Type 0 where
-  pub left : all_in f (kinds_in q) ≡ all_in f (kinds_from q i)
-  pub low : 1 ≤ i
+-- the kinds l of row q, from kind i on, decide whether each passes f
+pub record Kinds (f : ℕ → Bool) (q l : List ℕ) (i : ℕ) : Type 0 where
+  pub left : all_in f (kinds_in q) ≡ all_in f (drop i l)
 
-pub kinds_start : (f : ℕ → Bool) (q : List ℕ) → Kinds f q 1
-kinds_start f q = record { left = ap (all_in f) (sym (kinds_first q)); low = omega arith }
+pub kinds_start : (f : ℕ → Bool) (q l : List ℕ) → l ≡ kinds_in q → Kinds f q l 0
+kinds_start f q l e = record { left = ap (all_in f) (sym e) }
 
-module _ (f : ℕ → Bool) (q : List ℕ) (i n : ℕ) (w : Kinds f q i) (en : n ≡ kinds_end q) where
-  pub kinds_done : n ≤ i → true ≡ all_in f (kinds_in q)
-  kinds_done h = sym (w.left ∙ ap (all_in f) (kinds_end_law q i (omega arith)))
+module _ (f : ℕ → Bool) (q l : List ℕ) (i : ℕ) (w : Kinds f q l i) where
+  pub kinds_done : length l ≤ i → true ≡ all_in f (kinds_in q)
+  kinds_done h = sym (w.left ∙ ap (all_in f) (drop_of_length-le l h))
 
-  module _ (k : ℕ) (b : Bool) (h : i < n) (ek : k ≡ get_or q i 0) (eb : b ≡ f k) where
-    kinds_step : all_in f (kinds_from q i) ≡ (b && all_in f (kinds_from q (i + 1)))
-    kinds_step = rw (kinds_next q i w.low (omega arith), ← ek, eb)
+  module _ (b : Bool) (h : i < length l) (eb : b ≡ f (get_or l i 0)) where
+    kinds_step : all_in f (drop i l) ≡ (b && all_in f (drop (i + 1) l))
+    kinds_step = rw (add-one i, drop-cons l i 0 h, eb)
 
     pub kinds_off : b ≡ false → false ≡ all_in f (kinds_in q)
     kinds_off e = sym (w.left ∙ kinds_step ∙ rw e)
 
-    pub kinds_on : b ≡ true → Kinds f q (i + 1)
-    kinds_on e = record { left = w.left ∙ kinds_step ∙ rw e; low = omega (arith, w.low) }
+    pub kinds_on : b ≡ true → Kinds f q l (i + 1)
+    kinds_on e = record { left = w.left ∙ kinds_step ∙ rw e }
 
--- ---- tests of a kind's attributes, and of its tags
+-- ---- a test of a kind's attributes
 
-module _ (a q : List ℕ) (i n : ℕ) (en : n ≡ kinds_end q) (k : ℕ) (h : i < n) (ek : k ≡ get_or q i 0) where
-  module _ (f : ℕ → Bool) (w : Kinds (of_kind a f) q i) (z : ℕ) (b : Bool) (ez : z ≡ attribute_type_at a k) (eb : b ≡ of_record a f z) where
-    kind_is : b ≡ of_kind a f k
+module _ (a q l : List ℕ) (f : ℕ → Bool) where
+  pub asked : (k z : ℕ) (b : Bool) → z ≡ attribute_type_at a k → b ≡ of_record a f z → b ≡ of_kind a f k
+  unfolding of_kind
+  asked k z b ez eb = rw (← ez) eb
+
+  module _ (i : ℕ) (w : Kinds (of_kind a f) q l i) (h : i < length l) (z : ℕ) (b : Bool) (ez : z ≡ attribute_type_at a (get_or l i 0)) (eb : b ≡ of_record a f z) where
+    kind_is : b ≡ of_kind a f (get_or l i 0)
     unfolding of_kind
     kind_is = rw (← ez) eb
 
-    pub attributes_off : not b ≡ true → false ≡ all_in (of_kind a f) (kinds_in q)
-    attributes_off e = kinds_off (of_kind a f) q i n w en k b h ek kind_is (not-true b e)
+    pub attributes_off : b ≡ false → false ≡ all_in (of_kind a f) (kinds_in q)
+    attributes_off e = kinds_off (of_kind a f) q l i w b h kind_is e
 
-    pub attributes_on : not b ≡ false → Kinds (of_kind a f) q (i + 1)
-    attributes_on e = kinds_on (of_kind a f) q i n w en k b h ek kind_is (not-false b e)
-
-  module _ (o : ℕ) (w : Kinds (tags_are a o) q i) (z : ℕ) (ez : z ≡ tag_type_at a k) where
-    tags_is : eqb z o ≡ tags_are a o k
-    unfolding tags_are
-    tags_is = rw (← ez)
-
-    pub tags_off : (z ≡ o → ⊥) → false ≡ all_in (tags_are a o) (kinds_in q)
-    tags_off e = kinds_off (tags_are a o) q i n w en k (eqb z o) h ek tags_is (ne_eqb z o e)
-
-    pub tags_on : z ≡ o → Kinds (tags_are a o) q (i + 1)
-    tags_on e = kinds_on (tags_are a o) q i n w en k (eqb z o) h ek tags_is (eq-eqb z o e)
+    pub attributes_on : b ≡ true → Kinds (of_kind a f) q l (i + 1)
+    attributes_on e = kinds_on (of_kind a f) q l i w b h kind_is e
 
 -- ---- a test of each kind, or of a record type
 

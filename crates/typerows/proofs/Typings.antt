@@ -1,13 +1,15 @@
 -- Types, shapes, kinds and the request by their numbers: one law for each answer.
 use mathlib.Core.Path.{◌≡◌, refl, sym, ap, ◌∙◌}
-use mathlib.Core.Bool.{Bool, true, false, ◌||◌, or_assoc}
+use mathlib.Core.Bool.{Bool, true, false}
 use mathlib.Core.List.{List, [], ◌∷◌}
 use mathlib.Core.Option.{none, some}
+use Rattle.std.specs.Prelude.{Option, Some, None, unwrap_or}
+use Rattle.std.specs.List.{list_any}
 use Prim.Native.Nat.{ℕ, zero, suc, ◌+◌, ◌-◌, ◌≤◌, ◌<◌}
 use native.Mathlib.Omega.{arith}
 use borrow.Author.Tests.{eqb-true, eqb-false, le-ltb}
 use lib.Dec.{eqb, ltb}
-use lib.ListN.{length, get_or, drop, drop_of_length-le}
+use lib.ListN.{length, get_or, drop}
 use Rattle.cedar.specs.Value.{on_some}
 use Rattle.cedar.specs.Numbered.{mem_n}
 use Rattle.sheet.specs.Forms.{tag, first_type, KIND, TYPE, SHAPE}
@@ -16,11 +18,9 @@ use Rattle.sheet.specs.State.{Declared, TypeRow, bool, long, string, entity, set
 use Rattle.sheet.specs.Typing.{on_entity, on_set_of, on_record, none_declared}
 use Rattle.table.specs.Layout.{rows_of}
 use Rattle.fits.specs.Fit.{kinds_in, declared_by, found_in}
-use Rattle.fits.specs.declared.Found as F
-use Rattle.fits.proofs.KindLaws.{items_two}
-use Rattle.fits.proofs.Walks.{next}
+use Rattle.fits.proofs.KindLaws.{items_two, found_is}
 use Rattle.fits.proofs.Sorts.{type_table}
-use Rattle.typerows.specs.Types.{always, BOOL_SORT, ENTITY_SORT, SET_SORT, RECORD_SORT, sort_number, sort_at, kinds_at, element_at, record_at, attribute_at, bare_at, attribute_type_at, tag_type_at, is_above_at, action_at, of_record, target_at, request_at}
+use Rattle.typerows.specs.Types.{always, BOOL_SORT, ENTITY_SORT, SET_SORT, RECORD_SORT, sort_number, sort_at, kinds_at, element_at, record_at, attribute_at, bare_at, attribute_type_at, tag_type_at, above_at, is_above_at, action_at, of_record, target_at, request_at}
 
 -- ---- the sort of a type's row
 
@@ -102,19 +102,19 @@ module _ (a q : List ℕ) (y k : ℕ) (eq : q ≡ get_or (rows_of a TYPE) y []) 
   unfolding kinds_at
   kinds_not h = rw (← eq) (not_entity none (type_row q) some (λ s. h (ek ∙ tag_sort q (ENTITY_TYPE - LONG_TYPE) s)))
 
-  pub element_is : (x : ℕ) → k ≡ SET_TYPE → x ≡ get_or q 1 0 → found_in (F.TheVariants.As x) ≡ element_at a y
+  pub element_is : (x : ℕ) → k ≡ SET_TYPE → x ≡ get_or q 1 0 → found_in (Some x) ≡ element_at a y
   unfolding element_at
   element_is x h ex = let e : tag q ≡ SET_TYPE = sym ek ∙ h in rw (← eq, e, ex)
 
-  pub element_not : (k ≡ SET_TYPE → ⊥) → found_in F.TheVariants.Undeclared ≡ element_at a y
+  pub element_not : (k ≡ SET_TYPE → ⊥) → found_in None ≡ element_at a y
   unfolding element_at
   element_not h = let e : on_set_of none (type_row q) some ≡ none = not_set none (type_row q) some (λ s. h (ek ∙ tag_sort q (SET_TYPE - LONG_TYPE) s)) in rw (← eq, e)
 
-  pub record_is : k ≡ RECORD_TYPE → found_in (F.TheVariants.As y) ≡ record_at a y
+  pub record_is : k ≡ RECORD_TYPE → found_in (Some y) ≡ record_at a y
   unfolding record_at
   record_is h = let e : tag q ≡ RECORD_TYPE = sym ek ∙ h in rw (← eq, e)
 
-  pub record_not : (k ≡ RECORD_TYPE → ⊥) → found_in F.TheVariants.Undeclared ≡ record_at a y
+  pub record_not : (k ≡ RECORD_TYPE → ⊥) → found_in None ≡ record_at a y
   unfolding record_at
   record_not h = let e : on_record none (type_row q) (λ ds. some y) ≡ none = not_record none (type_row q) (λ ds. some y) (λ s. h (ek ∙ tag_sort q (RECORD_TYPE - LONG_TYPE) s)) in rw (← eq, e)
 
@@ -128,7 +128,7 @@ module _ (a q : List ℕ) (y k : ℕ) (eq : q ≡ get_or (rows_of a TYPE) y []) 
 
 -- ---- parts of a row
 
-pub attribute_is : (a q : List ℕ) (y t : ℕ) (f : F.Found) → q ≡ get_or (rows_of a TYPE) y [] → found_in f ≡ declared_by q t → found_in f ≡ attribute_at a y t
+pub attribute_is : (a q : List ℕ) (y t : ℕ) (f : Option ℕ) → q ≡ get_or (rows_of a TYPE) y [] → found_in f ≡ declared_by q t → found_in f ≡ attribute_at a y t
 unfolding attribute_at
 attribute_is a q y t f eq ef = rw (← eq) ef
 
@@ -161,38 +161,13 @@ request_at_is a q k x eq ex = rw (← eq) ex
 
 -- ---- kinds above
 
--- b, or what is left of the shape's row q, from word i on, decides whether kind l is above kind k
-pub record Above (a q : List ℕ) (k l i : ℕ) (b : Bool) : Type 0 where
-  pub left : is_above_at a k l ≡ (b || mem_n l (drop i q))
-
-pub above_start : (a q : List ℕ) (k l : ℕ) → q ≡ get_or (rows_of a SHAPE) k [] → Above a q k l 3 false
+pub above_is : (a l : List ℕ) (k d : ℕ) (b : Bool) → l ≡ above_at a k → b ≡ list_any (λ (x : ℕ). eqb x d) l → b ≡ is_above_at a k d
 unfolding is_above_at
-above_start a q k l eq = record { left = rw (← eq) }
-
-module _ (a q : List ℕ) (k l i : ℕ) (b : Bool) (w : Above a q k l i b) where
-  pub above_end : length q ≤ i → b ≡ is_above_at a k l
-  above_end h = sym (w.left ∙ rw (drop_of_length-le q h) (or_none b))
-    where
-      or_none : (b : Bool) → (b || false) ≡ b
-      or_none true = refl
-      or_none false = refl
-
-  pub above_on : (x : ℕ) (c : Bool) → i < length q → x ≡ get_or q i 0 → c ≡ (b || eqb l x) → Above a q k l (i + 1) c
-  above_on x c h ex ec = record { left = w.left ∙ rw (next q i h, ← ex, ec) (sym (or_assoc b (eqb l x) (mem_n l (drop (i + 1) q)))) }
-
-pub found_before : (f : Bool) (k l : ℕ) → f ≡ true → true ≡ (f || eqb k l)
-found_before f k l h = rw h
-
-pub found_here : (f : Bool) (k l : ℕ) → f ≡ false → eqb k l ≡ (f || eqb k l)
-found_here f k l h = rw h
+above_is a l k d b e q = q ∙ found_is d l ∙ ap (mem_n d) e
 
 -- ---- targets
 
-module _ (a : List ℕ) (y : ℕ) (f : F.Found) (ef : found_in f ≡ element_at a y) where
-  pub target_none : (s : ℕ) → f ≡ F.TheVariants.Undeclared → s ≡ sort_at a y → eqb s ENTITY_SORT ≡ target_at a y
-  unfolding target_at
-  target_none s h es = let e : element_at a y ≡ none = sym ef ∙ ap found_in h in rw (e, es)
-
-  pub target_some : (s z : ℕ) → f ≡ F.TheVariants.As z → s ≡ sort_at a z → eqb s ENTITY_SORT ≡ target_at a y
-  unfolding target_at
-  target_some s z h es = let e : element_at a y ≡ some z = sym ef ∙ ap found_in h in rw (e, es)
+pub target_is : (a : List ℕ) (y s x : ℕ) (f : Option ℕ) → found_in f ≡ element_at a y → x ≡ unwrap_or f y → s ≡ sort_at a x → eqb s ENTITY_SORT ≡ target_at a y
+unfolding target_at
+target_is a y s x None ef ex es = rw (← ef, es, ex)
+target_is a y s x (Some z) ef ex es = rw (← ef, es, ex)

@@ -72,6 +72,10 @@ module _ (a : List ℕ) where
   unfoldable pub tag_type_at : ℕ → ℕ
   tag_type_at k = get_or (get_or (rows_of a SHAPE) k []) 2 0
 
+  -- the kinds above kind k
+  abbrev pub above_at : ℕ → List ℕ
+  above_at k = drop 3 (get_or (rows_of a SHAPE) k [])
+
   unfoldable pub is_above_at : ℕ → ℕ → Bool
   is_above_at k l = mem_n l (drop 3 (get_or (rows_of a SHAPE) k []))
 

@@ -5,9 +5,9 @@ ghost use Rattle.std.specs.Prelude.{◌≡◌, ◌||◌, eqb};
 ghost use Rattle.sheet.specs.Typing.{all_in};
 ghost use Rattle.fits.specs.Fit.{found_in, kinds_in};
 ghost use Rattle.typesets.specs.Sets.{Each};
-ghost use Rattle.typerows.specs.Types.{always, sort_at, element_at, record_at, attribute_at, bare_at, attribute_type_at, tag_type_at, is_above_at, action_at, of_record, target_at, request_at, of_kind, declares_as};
+ghost use Rattle.typerows.specs.Types.{always, sort_at, element_at, record_at, attribute_at, bare_at, attribute_type_at, tag_type_at, above_at, is_above_at, action_at, of_record, target_at, request_at, of_kind, declares_as};
 
-use fits::{Found, declared, kinds_end};
+use fits::{declared, kinds};
 use forms::{
     BOOL_TYPE, ENTITY_TYPE, KIND, LONG_TYPE, OF_ACTIONS, RECORD_TYPE, SET_TYPE, SHAPE, STRING_TYPE,
     TYPE,
@@ -42,26 +42,26 @@ pub fn sort(rows: &[u32], ty: u32) -> u32
     k - BOOL_TYPE
 }
 
-// The type of a set's elements.
-pub fn element_of(rows: &[u32], ty: u32) -> Found
+// The type of a set's elements, if a type is a set.
+pub fn element_of(rows: &[u32], ty: u32) -> Option<u32>
     ensures { found_in result ≡ element_at rows.now ty }
 {
     let q = row(rows, TYPE, ty);
     if tag(q) == SET_TYPE {
-        return Found::As(item(q, 1));
+        return Some(item(q, 1));
     }
-    Found::Undeclared
+    None
 }
 
-// A record type itself.
-pub fn record_of(rows: &[u32], ty: u32) -> Found
+// A record type itself, if a type is one.
+pub fn record_of(rows: &[u32], ty: u32) -> Option<u32>
     ensures { found_in result ≡ record_at rows.now ty }
 {
     let q = row(rows, TYPE, ty);
     if tag(q) == RECORD_TYPE {
-        return Found::As(ty);
+        return Some(ty);
     }
-    Found::Undeclared
+    None
 }
 
 // Whether a type is a record type.
@@ -72,8 +72,8 @@ pub fn is_record(rows: &[u32], ty: u32) -> bool
     tag(q) == RECORD_TYPE
 }
 
-// The type that a record type declares for an attribute.
-pub fn attribute(rows: &[u32], ty: u32, text: u32) -> Found
+// The type that a record type declares for an attribute, if it declares it.
+pub fn attribute(rows: &[u32], ty: u32, text: u32) -> Option<u32>
     ensures { found_in result ≡ attribute_at rows.now ty text }
 {
     let q = row(rows, TYPE, ty);
@@ -104,28 +104,21 @@ pub fn tag_type(rows: &[u32], kind: u32) -> u32
     item(q, 2)
 }
 
-// Whether it was found before, or two kinds are the same.
-fn found_or_same(found: bool, kind: u32, other: u32) -> bool
-    ensures { result ≡ (found || eqb kind other) }
+// The kinds above a kind.
+pub fn kinds_above(rows: &[u32], kind: u32) -> &[u32]
+    ensures { result.now ≡ above_at rows.now kind }
 {
-    if found {
-        return true;
+    match row(rows, SHAPE, kind) {
+        [_, _, _, above @ ..] => above,
+        _ => &[],
     }
-    kind == other
 }
 
-// Whether kind `above` is above `kind`. The whole row is compared, which takes less time than to stop where the kind is found.
+// Whether kind `above` is above `kind`.
 pub fn is_above(rows: &[u32], kind: u32, above: u32) -> bool
     ensures { result ≡ is_above_at rows.now kind above }
 {
-    let q = row(rows, SHAPE, kind);
-    let mut found = false;
-    let mut i: usize = 3;
-    while i < q.len() {
-        found = found_or_same(found, above, item(q, i));
-        i += 1;
-    }
-    found
+    kinds_above(rows, kind).contains(&above)
 }
 
 pub fn is_action(rows: &[u32], kind: u32) -> bool
@@ -139,11 +132,7 @@ pub fn is_action(rows: &[u32], kind: u32) -> bool
 pub fn is_target(rows: &[u32], ty: u32) -> bool
     ensures { result ≡ target_at rows.now ty }
 {
-    let f = element_of(rows, ty);
-    let Found::As(e) = f else {
-        return sort(rows, ty) == ENTITY_SORT;
-    };
-    sort(rows, e) == ENTITY_SORT
+    sort(rows, element_of(rows, ty).unwrap_or(ty)) == ENTITY_SORT
 }
 
 // The kind or type that a line of the request names.
@@ -160,15 +149,10 @@ pub fn request(rows: &[u32], key: usize) -> u32
 pub fn declares(rows: &[u32], ty: u32, text: u32, own: u32) -> bool
     ensures { result ≡ of_record rows.now (declares_as rows.now text own) ty }
 {
-    let f = record_of(rows, ty);
-    let Found::As(y) = f else {
+    let Some(y) = record_of(rows, ty) else {
         return false;
     };
-    let g = attribute(rows, y, text);
-    let Found::As(z) = g else {
-        return false;
-    };
-    own == z
+    Some(own) == attribute(rows, y, text)
 }
 
 // The same, with a set of types of which it is so; a type that is looked up joins it.
@@ -191,14 +175,11 @@ pub fn kinds_declare(rows: &[u32], type_row: &[u32], text: u32, own: u32) -> boo
     ensures { result ≡ all_in (of_kind rows.now (declares_as rows.now text own)) (kinds_in type_row.now) }
 {
     let mut seen = [0u32; TYPE_WORDS];
-    let end = kinds_end(type_row);
-    let mut i: usize = 1;
-    while i < end {
-        let y = attribute_type(rows, item(type_row, i));
+    for &kind in kinds(type_row) {
+        let y = attribute_type(rows, kind);
         if !declares_once(rows, &mut seen, y, text, own) {
             return false;
         }
-        i += 1;
     }
     true
 }
@@ -207,13 +188,7 @@ pub fn kinds_declare(rows: &[u32], type_row: &[u32], text: u32, own: u32) -> boo
 pub fn kinds_have(rows: &[u32], type_row: &[u32]) -> bool
     ensures { result ≡ all_in (of_kind rows.now always) (kinds_in type_row.now) }
 {
-    let end = kinds_end(type_row);
-    let mut i: usize = 1;
-    while i < end {
-        if !is_record(rows, attribute_type(rows, item(type_row, i))) {
-            return false;
-        }
-        i += 1;
-    }
-    true
+    kinds(type_row)
+        .iter()
+        .all(|&kind| is_record(rows, attribute_type(rows, kind)))
 }

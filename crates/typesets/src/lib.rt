@@ -26,18 +26,16 @@ pub fn next(set: &[u32], number: usize) -> usize
     requires { (number ≤ TYPES) × (length set.now ≡ TYPE_WORDS) }
     ensures { Next set.now number result × (result ≤ TYPES) }
 {
-    let mut w = number / 32;
-    let left = read(set, w) >> (number % 32);
+    let own = number / 32;
+    let left = read(set, own) >> (number % 32);
     if left != 0 {
-        return number + u32::trailing_zeros(left) as usize;
+        return number + left.trailing_zeros() as usize;
     }
-    w += 1;
-    while w < TYPE_WORDS {
+    for w in own + 1..TYPE_WORDS {
         let x = read(set, w);
         if x != 0 {
-            return w * 32 + u32::trailing_zeros(x) as usize;
+            return w * 32 + x.trailing_zeros() as usize;
         }
-        w += 1;
     }
     TYPES
 }
@@ -49,13 +47,11 @@ pub fn are_seen(seen: &[u32], records: &[u32], slot: usize) -> bool
     requires { (length seen.now ≡ SLOTS * TYPE_WORDS) × (length records.now ≡ TYPE_WORDS) × (slot < SLOTS) }
     ensures { AllSeen seen.now records.now slot result }
 {
-    let mut w: usize = 0;
-    while w < TYPE_WORDS {
+    for w in 0..TYPE_WORDS {
         let x = read(seen, slot * TYPE_WORDS + w);
         if x | read(records, w) != x {
             return false;
         }
-        w += 1;
     }
     true
 }
@@ -84,10 +80,8 @@ pub fn join_places(images: &[u32], reached: &mut [u32], records: &[u32], slot: u
     requires { (length images.now ≡ PLACES * TYPE_WORDS) × (length reached.old ≡ TYPE_WORDS) × (length records.now ≡ TYPE_WORDS) × (slot < SLOTS) }
     ensures { Gathered reached.old reached.new (of_sets images.now slot records.now 0) true }
 {
-    let mut w: usize = 0;
-    while w < TYPE_WORDS {
+    for w in 0..TYPE_WORDS {
         join_word(images, reached, read(records, w), slot * TYPES + w * 32);
-        w += 1;
     }
 }
 

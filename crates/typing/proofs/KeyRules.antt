@@ -1,6 +1,6 @@
 -- The rules of keys: one law for each answer of the code.
 use mathlib.Core.Path.{◌≡◌, refl, sym, ap, ◌∙◌}
-use mathlib.Core.Bool.{Bool, true, false, not, cond, ◌&&◌}
+use mathlib.Core.Bool.{Bool, true, false, not, cond, ◌&&◌, ◌||◌}
 use mathlib.Core.List.{List, [], ◌∷◌}
 use mathlib.Core.Option.{none, some}
 use Prim.Native.Nat.{ℕ, zero, suc, ◌+◌, ◌-◌, ◌≤◌, ◌<◌}
@@ -10,14 +10,15 @@ use borrow.Author.Tests.{eq-eqb, ne_eqb, not-true, not-false, lt-ltb, le-ltb}
 use lib.Dec.{eqb, ltb}
 use lib.ListN.{length, get_or, drop, set, replicate, drop_of_length-le}
 use lib.Seq.{get_or-set_other}
-use Rattle.sheet.specs.Forms.{tag, mark, first_node, SHAPE, VALUE, ENTITY, PRINCIPAL, ACTION, RESOURCE, CONTEXT, NODE, POLICY, LINK, no_key}
+use Rattle.sheet.specs.Forms.{tag, items, mark, first_node, SHAPE, VALUE, ENTITY, PRINCIPAL, ACTION, RESOURCE, CONTEXT, NODE, POLICY, LINK, no_key}
 use Rattle.forms.specs.Tags.{LONG_VALUE, ENTITY_VALUE, SET_VALUE, RECORD_VALUE}
 use Rattle.sheet.specs.State.{entries_of, value_row}
 use Rattle.sheet.specs.Typing.{all_in, all_entries, is_stop}
 use Rattle.table.specs.Layout.{rows_of}
 use Rattle.fits.specs.Fit.{full, found_in, tags_fit_by, Known, Answered}
-use Rattle.fits.specs.declared.Found as F
-use Rattle.fits.proofs.Walks.{next}
+use Rattle.std.specs.Prelude as Found
+use Rattle.std.proofs.lemmas.List.{drop_more}
+use Rattle.cedar.specs.Numbered.{is_some}
 use Rattle.fits.proofs.Sorts.{sort_tag, no_entity, no_set, no_record}
 use Rattle.typing.specs.Links.{link_rule}
 use Rattle.typerows.specs.Types.{BOOL_SORT, sort_at, record_at, bare_at, attribute_type_at, tag_type_at, is_above_at, action_at}
@@ -32,30 +33,24 @@ turned e q = record { is = λ s. q.is s ∙ e; known = q.known; rest = q.rest }
 
 -- ---- shapes
 
-module _ (a r : List ℕ) (o : ℕ) (f : F.Found) (eo : o ≡ get_or r 1 0) (ef : found_in f ≡ record_at a o) where
-  pub shape_none : f ≡ F.TheVariants.Undeclared → false ≡ shape_rule a r
+module _ (a r : List ℕ) (o : ℕ) (eo : o ≡ get_or r 1 0) where
+  pub shape_none : none ≡ record_at a o → false ≡ shape_rule a r
   unfolding shape_rule
-  shape_none g = let e : record_at a o ≡ none = sym ef ∙ ap found_in g in rw (← eo, e)
+  shape_none e = rw (← eo, ← e)
 
-  module _ (y n : ℕ) (b : Bool) (g : f ≡ F.TheVariants.As y) (en : n ≡ get_or a SHAPE 0) (eb : b ≡ action_at a n) where
-    pub shape_plain : not b ≡ true → true ≡ shape_rule a r
+  module _ (y n : ℕ) (b : Bool) (e : some y ≡ record_at a o) (en : n ≡ get_or a SHAPE 0) (eb : b ≡ action_at a n) where
+    pub shape_plain : b ≡ false → true ≡ shape_rule a r
     unfolding shape_rule
-    shape_plain h =
-        let e : record_at a o ≡ some y = sym ef ∙ ap found_in g in
-        rw (← eo, e, ← en, ← eb, h)
+    shape_plain h = rw (← eo, ← e, ← en, ← eb, h)
 
-    module _ (c : Bool) (h : not b ≡ false) (ec : c ≡ bare_at a y) where
-      pub shape_full : not c ≡ true → false ≡ shape_rule a r
+    module _ (c : Bool) (h : b ≡ true) (ec : c ≡ bare_at a y) where
+      pub shape_full : c ≡ false → false ≡ shape_rule a r
       unfolding shape_rule
-      shape_full i =
-          let e : record_at a o ≡ some y = sym ef ∙ ap found_in g in
-          rw (← eo, e, ← en, ← eb, h, ← ec, not-true c i)
+      shape_full i = rw (← eo, ← e, ← en, ← eb, h, ← ec, i)
 
-      pub shape_bare : (t : ℕ) → not c ≡ false → t ≡ get_or r 2 0 → eqb t mark ≡ shape_rule a r
+      pub shape_bare : (t : ℕ) → c ≡ true → t ≡ get_or r 2 0 → eqb t mark ≡ shape_rule a r
       unfolding shape_rule
-      shape_bare t i et =
-          let e : record_at a o ≡ some y = sym ef ∙ ap found_in g in
-          rw (← eo, e, ← en, ← eb, h, ← ec, not-false c i, ← et)
+      shape_bare t i et = rw (← eo, ← e, ← en, ← eb, h, ← ec, i, ← et)
 
 -- ---- attributes, tags, parents of an entity
 
@@ -125,24 +120,24 @@ pub parents_unknown : (a : List ℕ) (x k : ℕ) → x ≡ mark → true ≡ par
 unfolding parents_rule
 parents_unknown a x k h = rw (eq-eqb x mark h)
 
--- what is left of the set, from word i on, decides the whole
-pub record Parents (a q : List ℕ) (x k i : ℕ) : Type 0 where
-  pub left : parents_rule a x k ≡ all_in (λ v. ancestor_rule a v k) (drop i q)
+-- what is left of the parents, l from parent i on, decides the whole
+pub record Parents (a l : List ℕ) (x k i : ℕ) : Type 0 where
+  pub left : parents_rule a x k ≡ all_in (λ v. ancestor_rule a v k) (drop i l)
 
-pub parents_start : (a q : List ℕ) (x k t : ℕ) → q ≡ get_or (rows_of a VALUE) x [] → t ≡ tag q → (x ≡ mark → ⊥) → t ≡ SET_VALUE → Parents a q x k 1
+pub parents_start : (a q l : List ℕ) (x k t : ℕ) → q ≡ get_or (rows_of a VALUE) x [] → t ≡ tag q → (x ≡ mark → ⊥) → t ≡ SET_VALUE → l ≡ items q → Parents a l x k 0
 unfolding parents_rule
-parents_start a q x k t eq et nx h = let e : tag q ≡ SET_VALUE = sym et ∙ h in record { left = rw (ne_eqb x mark nx, ← eq, e) }
+parents_start a q l x k t eq et nx h el = let e : tag q ≡ SET_VALUE = sym et ∙ h in record { left = rw (ne_eqb x mark nx, ← eq, e, ← el) }
 
-module _ (a q : List ℕ) (x k i : ℕ) (w : Parents a q x k i) where
-  pub parents_end : length q ≤ i → true ≡ parents_rule a x k
-  parents_end h = sym (w.left ∙ rw (drop_of_length-le q h))
+module _ (a l : List ℕ) (x k i : ℕ) (w : Parents a l x k i) where
+  pub parents_end : length l ≤ i → true ≡ parents_rule a x k
+  parents_end h = sym (w.left ∙ rw (drop_of_length-le l h))
 
-  module _ (l : i < length q) (v : ℕ) (b : Bool) (ev : v ≡ get_or q i 0) (eb : b ≡ ancestor_rule a v k) where
-    pub parents_off : not b ≡ true → false ≡ parents_rule a x k
-    parents_off h = sym (w.left ∙ rw (next q i l, ← ev, ← eb, not-true b h))
+  module _ (h : i < length l) (b : Bool) (eb : b ≡ ancestor_rule a (get_or l i 0) k) where
+    pub parents_off : b ≡ false → false ≡ parents_rule a x k
+    parents_off e = sym (w.left ∙ rw (drop_more l i 0 h, ← eb, e))
 
-    pub parents_on : not b ≡ false → Parents a q x k (i + 1)
-    parents_on h = record { left = w.left ∙ rw (next q i l, ← ev, ← eb, not-false b h) }
+    pub parents_on : b ≡ true → Parents a l x k (i + 1)
+    parents_on e = record { left = w.left ∙ rw (drop_more l i 0 h, ← eb, e) }
 
 -- ---- `entity_typed`
 
@@ -188,23 +183,30 @@ module _ (a r q : List ℕ) (v t : ℕ) (ev : v ≡ get_or r 1 0) (eq : q ≡ ge
 
 -- ---- the context, policies
 
-module _ (a r : List ℕ) (y : ℕ) (f : F.Found) (ey : y ≡ get_or r 1 0) (ef : found_in f ≡ record_at a y) where
-  pub context_none : (m : List ℕ) → Known a m → f ≡ F.TheVariants.Undeclared → Answered a m m (context_rule a r) false
+module _ (a r : List ℕ) (y : ℕ) (f : Found.Option ℕ) (b : Bool) (ey : y ≡ get_or r 1 0) (ef : found_in f ≡ record_at a y) (eb : Found.is_some f ≡ not b) where
+  pub context_none : (m : List ℕ) → Known a m → b ≡ true → Answered a m m (context_rule a r) false
   unfolding context_rule
-  context_none m u g = let e : record_at a y ≡ none = sym ef ∙ ap found_in g in plain a m (context_rule a r) false u (rw (← ey, e))
+  context_none m u g = plain a m (context_rule a r) false u (rw (← ey, ← ef) (go f (eb ∙ ap not g)))
+    where
+      go : (f : Found.Option ℕ) → Found.is_some f ≡ false → false ≡ (is_some (found_in f) && (eqb (get_or r 2 0) mark || full a (get_or r 2 0) y))
+      go Found.None e = refl
+      go (Found.Some z) e = cc
 
-  module _ (z x : ℕ) (g : f ≡ F.TheVariants.As z) (ex : x ≡ get_or r 2 0) where
+  module _ (x : ℕ) (g : b ≡ false) (ex : x ≡ get_or r 2 0) where
+    there : is_some (record_at a y) ≡ true
+    there = rw (← ef) (go f (eb ∙ ap not g))
+      where
+        go : (f : Found.Option ℕ) → Found.is_some f ≡ true → is_some (found_in f) ≡ true
+        go Found.None e = cc
+        go (Found.Some z) e = refl
+
     pub context_unknown : (m : List ℕ) → Known a m → x ≡ mark → Answered a m m (context_rule a r) true
     unfolding context_rule
-    context_unknown m u h =
-        let e : record_at a y ≡ some z = sym ef ∙ ap found_in g in
-        plain a m (context_rule a r) true u (rw (← ey, e, ← ex, eq-eqb x mark h))
+    context_unknown m u h = plain a m (context_rule a r) true u (rw (← ey, there, ← ex, eq-eqb x mark h))
 
     context_as : (x ≡ mark → ⊥) → full a x y ≡ context_rule a r
     unfolding context_rule
-    context_as h =
-        let e : record_at a y ≡ some z = sym ef ∙ ap found_in g in
-        rw (← ey, e, ← ex, ne_eqb x mark h)
+    context_as h = rw (← ey, there, ← ex, ne_eqb x mark h)
 
     pub context_known : (m n : List ℕ) (b : Bool) → (x ≡ mark → ⊥) → Answered a m n (full a x y) b → Answered a m n (context_rule a r) b
     context_known m n b h = turned (context_as h)

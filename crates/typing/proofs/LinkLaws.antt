@@ -9,7 +9,9 @@ use native.Mathlib.Omega.{arith}
 use native.Mathlib.Decide.{ℕ_discrete, dec_lt}
 use borrow.Author.Tests.{eq-eqb, ne_eqb, lt-ltb, le-ltb, ltb-false, not-true, not-false}
 use lib.Dec.{eqb, ltb}
-use lib.ListN.{length, get_or, drop, drop_of_length-le, get_or-append, get_or-eq_default}
+use lib.ListN.{length, get_or, drop, drop_of_length-le, get_or-append, get_or-eq_default, length-drop}
+use lib.Seq.{get_or-take}
+use Rattle.std.proofs.lemmas.List.{drop_more, length-take, get_or-drop}
 use lib.Seq.{get_or-append-add}
 use Rattle.sheet.specs.Ascii.{ascii}
 use Rattle.sheet.specs.Bytes.{same}
@@ -23,7 +25,7 @@ use Rattle.forms.proofs.Table.{both_small}
 use Rattle.forms.proofs.Places.{place_first, place_none, place_again}
 use Rattle.table.specs.Layout.{rows_of, TYPEDEPTHS}
 use Rattle.fits.specs.Fit.{full, SettledIn, Known, Answered}
-use Rattle.fits.proofs.Walks.{next}
+use Rattle.words.specs.Log.{part}
 use Rattle.typing.specs.Links.{child_in, seen_below, seen_from, NodesEnd, slot_fits, slots_fit_in, link_rule}
 
 -- ---- what may stand at a place of a line, by its code
@@ -234,36 +236,46 @@ module _ (a r : List ℕ) (p q n d : ℕ) where
   unfolding refs
   below_start m k = record { left = λ s. refl; known = k; rest = refl }
 
-  module _ (m o : List ℕ) (j : ℕ) (w : Below m o j) where
-    pub below_end : (e : ℕ) → NodesEnd r e → e ≤ j + 1 → Answered a m o below_fits true
-    unfolding slots_fit_in seen_below
-    below_end e z h = record { is = λ s. sym (w.left s ∙ rw (z.none j h)); known = w.known; rest = w.rest }
+  -- l are the items at which nodes may stand
+  module _ (m o : List ℕ) (j : ℕ) (w : Below m o j) (e : ℕ) (z : NodesEnd r e) (l : List ℕ) (el : l ≡ part r 1 e) where
+    many : length l ≡ e - 1
+    many = rw el (let h = z.within in simp (length-take, length-drop) (omega arith))
 
-    module _ (u : List ℕ) (e t x c : ℕ) (f : F.Form) (b : Bool) (z : NodesEnd r e) (h : j + 1 < e) (et : t ≡ tag r) (ef : f ≡ coded (form_of t)) (ec : c ≡ code_in f j) (ex : x ≡ get_or r (j + 1) 0)
-        (g : Answered a o u (slots_fit_in a p q (seen_below (seen_from (rows_of a NODE) d) n (child_in c x))) b) where
+    pub below_end : length l ≤ j → Answered a m o below_fits true
+    unfolding slots_fit_in seen_below
+    below_end h = record { is = λ s. sym (w.left s ∙ rw (z.none j (omega (arith, many)))); known = w.known; rest = w.rest }
+
+    module _ (u : List ℕ) (t c : ℕ) (f : F.Form) (b : Bool) (h : j < length l) (et : t ≡ tag r) (ef : f ≡ coded (form_of t)) (ec : c ≡ code_in f j)
+        (g : Answered a o u (slots_fit_in a p q (seen_below (seen_from (rows_of a NODE) d) n (child_in c (get_or l j 0)))) b) where
+      abbrev x : ℕ
+      x = get_or l j 0
+
       refers_so : is_line NODE (slot_at (tag r) j) ≡ eqb c OF_NODE
       refers_so = refers (tag r) j ∙ ap (λ (y : F.Form). eqb (code_in y j) OF_NODE) (ap (λ (y : ℕ). coded (form_of y)) (sym et) ∙ sym ef) ∙ ap (λ (y : ℕ). eqb y OF_NODE) (sym ec)
+
+      item_is : get_or r (j + 1) 0 ≡ x
+      item_is = sym (rw el (get_or-take (e - 1) (drop 1 r) j 0 (omega (arith, many)) ∙ get_or-drop 1 r j 0 ∙ ap (λ (i : ℕ). get_or r i 0) (omega arith)))
 
       step : below_from j ≡ (slots_fit_in a p q (seen_below (seen_from (rows_of a NODE) d) n (child_in c x)) && below_from (j + 1))
       unfolding child_in
       step =
-          ap (λ (l : List ℕ). slots_fit_in a p q (seen_below F n (refs_from NODE (tag r) j l))) (next r (j + 1) (omega (arith, h, z.within)) ∙ ap (λ (y : ℕ). y ∷ drop (j + 1 + 1) r) (sym ex))
+          ap (λ (l : List ℕ). slots_fit_in a p q (seen_below F n (refs_from NODE (tag r) j l))) (drop_more r (j + 1) 0 (omega (arith, h, many, z.within)) ∙ ap (λ (y : ℕ). y ∷ drop (j + 1 + 1) r) item_is)
           ∙ ap₂ (λ (y : Bool) (i : ℕ). slots_fit_in a p q (seen_below F n (keep y x (refs_from NODE (tag r) i (drop (j + 1 + 1) r))))) refers_so (omega arith)
           ∙ fit_keep a p q F n (eqb c OF_NODE) x (refs_from NODE (tag r) (j + 1) (drop (j + 1 + 1) r))
         where
           F : ℕ → List (List ℕ)
           F = seen_from (rows_of a NODE) d
 
-      pub below_on : not b ≡ false → Below m u (j + 1)
+      pub below_on : b ≡ true → Below m u (j + 1)
       below_on nb = record {
-        left = λ s. w.left s ∙ step ∙ ap (λ (y : Bool). y && below_from (j + 1)) (sym (g.is s) ∙ not-false b nb);
+        left = λ s. w.left s ∙ step ∙ ap (λ (y : Bool). y && below_from (j + 1)) (sym (g.is s) ∙ nb);
         known = g.known;
         rest = g.rest ∙ w.rest;
       }
 
-      pub below_off : not b ≡ true → Answered a m u below_fits false
+      pub below_off : b ≡ false → Answered a m u below_fits false
       below_off nb = record {
-        is = λ s. sym (w.left s ∙ step ∙ ap (λ (y : Bool). y && below_from (j + 1)) (sym (g.is s) ∙ not-true b nb));
+        is = λ s. sym (w.left s ∙ step ∙ ap (λ (y : Bool). y && below_from (j + 1)) (sym (g.is s) ∙ nb));
         known = g.known;
         rest = g.rest ∙ w.rest;
       }

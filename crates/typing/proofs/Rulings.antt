@@ -3,22 +3,21 @@ use mathlib.Core.Path.{◌≡◌, refl, sym, ap, ◌∙◌}
 use mathlib.Core.Bool.{Bool, true, false, not, ◌&&◌}
 use mathlib.Core.List.{List, [], ◌∷◌}
 use mathlib.Core.Option.{none, some}
-use Prim.Native.Nat.{ℕ, zero, suc, ◌+◌, ◌-◌, ◌≤◌, ◌<◌}
+use Prim.Native.Nat.{ℕ, zero, suc, ◌-◌, ◌≤◌, ◌<◌}
 use native.Mathlib.Omega.{arith}
 use borrow.Author.Tests.{eq-eqb, ne_eqb, not-true, not-false}
 use lib.Dec.{eqb}
-use lib.ListN.{length, get_or, drop, drop_of_length-le, length-drop}
-use lib.Seq.{take_all}
+use lib.ListN.{length, get_or, take, drop, drop_of_length-le}
 use Rattle.cedar.specs.Value.{on_some}
 use Rattle.sheet.specs.Bytes.{same}
-use Rattle.sheet.specs.Forms.{tag, TYPE, PRINCIPAL, ACTION, RESOURCE, CONTEXT, NODE}
+use Rattle.sheet.specs.Forms.{tag, items, TYPE, PRINCIPAL, ACTION, RESOURCE, CONTEXT, NODE}
 use Rattle.sheet.specs.Typing.{all_in}
 use Rattle.forms.specs.Tags.{ENTITY_TYPE, PART_P, PART_A, PART_R}
 use Rattle.words.specs.Log.{part}
 use Rattle.table.specs.Layout.{rows_of}
-use Rattle.fits.specs.Fit.{kinds_in, found_in, complete_in}
-use Rattle.fits.specs.declared.Found as F
-use Rattle.fits.proofs.Walks.{next, entries_end, entries_one, entries_on}
+use Rattle.fits.specs.Fit.{kinds_in, complete_in}
+use Rattle.std.proofs.lemmas.List.{take_rest}
+use Rattle.fits.proofs.Walks.{entries_end, entries_on}
 use Rattle.typerows.proofs.Typings.{kinds_is, kinds_not}
 use Rattle.typerows.proofs.KindWalks.{each_kinds, each_record}
 use Rattle.typerows.specs.Types.{always, BOOL_SORT, STRING_SORT, ENTITY_SORT, SET_SORT, sort_at, element_at, record_at, attribute_at, target_at, request_at, of_record, of_kind, declares_as, tags_are}
@@ -163,14 +162,14 @@ module _ (a r : List ℕ) where
     unfolding contains_rule
     contains_no h = rw (← eo, ← es, ne_eqb s BOOL_SORT h)
 
-    module _ (x : ℕ) (f : F.Found) (h : s ≡ BOOL_SORT) (ex : x ≡ child_at a r 2) (ef : found_in f ≡ element_at a x) where
-      pub contains_none : f ≡ F.TheVariants.Undeclared → false ≡ contains_rule a r
+    module _ (x : ℕ) (h : s ≡ BOOL_SORT) (ex : x ≡ child_at a r 2) where
+      pub contains_none : none ≡ element_at a x → false ≡ contains_rule a r
       unfolding contains_rule
-      contains_none g = let e : element_at a x ≡ none = sym ef ∙ ap found_in g in rw (← eo, ← es, eq-eqb s BOOL_SORT h, ← ex, e)
+      contains_none e = rw (← eo, ← es, eq-eqb s BOOL_SORT h, ← ex, ← e)
 
-      pub contains_some : (k y : ℕ) → f ≡ F.TheVariants.As k → y ≡ child_at a r 3 → eqb k y ≡ contains_rule a r
+      pub contains_some : (k y : ℕ) → some k ≡ element_at a x → y ≡ child_at a r 3 → eqb k y ≡ contains_rule a r
       unfolding contains_rule
-      contains_some k y g ey = let e : element_at a x ≡ some k = sym ef ∙ ap found_in g in rw (← eo, ← es, eq-eqb s BOOL_SORT h, ← ex, e, ← ey)
+      contains_some k y e ey = rw (← eo, ← es, eq-eqb s BOOL_SORT h, ← ex, ← e, ← ey)
 
   -- ---- `all`, `any`, `if`
 
@@ -234,98 +233,60 @@ module _ (a r : List ℕ) where
 -- ---- sets
 
 module _ (a r : List ℕ) where
-  module _ (o : ℕ) (f : F.Found) (eo : o ≡ get_or r 1 0) (ef : found_in f ≡ element_at a o) where
-    pub set_none : f ≡ F.TheVariants.Undeclared → false ≡ set_rule a r
+  module _ (o : ℕ) (eo : o ≡ get_or r 1 0) where
+    pub set_none : none ≡ element_at a o → false ≡ set_rule a r
     unfolding set_rule
-    set_none g = let e : element_at a o ≡ none = sym ef ∙ ap found_in g in rw (← eo, e)
+    set_none e = rw (← eo, ← e)
 
-    pub set_some : (k : ℕ) (b : Bool) → f ≡ F.TheVariants.As k → b ≡ all_of a (drop 2 r) k → b ≡ set_rule a r
+    pub set_some : (k : ℕ) (b : Bool) → some k ≡ element_at a o → b ≡ all_of a (drop 2 r) k → b ≡ set_rule a r
     unfolding set_rule
-    set_some k b g eb = let e : element_at a o ≡ some k = sym ef ∙ ap found_in g in rw (← eo, e) eb
+    set_some k b e eb = rw (← eo, ← e) eb
 
-  -- what is left of the children, from word i on, decides the whole
-  pub record Children (e i : ℕ) : Type 0 where
-    pub left : all_of a (drop 2 r) e ≡ all_of a (drop i r) e
+    -- ---- records
 
-  pub children_start : (e : ℕ) → Children e 2
-  children_start e = record { left = refl }
-
-  module _ (e i : ℕ) (w : Children e i) where
-    pub children_end : length r ≤ i → true ≡ all_of a (drop 2 r) e
-    unfolding all_of
-    children_end h = sym (w.left ∙ rw (drop_of_length-le r h))
-
-    module _ (x : ℕ) (l : i < length r) (ex : x ≡ child_at a r i) where
-      children_step : all_of a (drop i r) e ≡ (eqb x e && all_of a (drop (i + 1) r) e)
-      unfolding all_of child_at
-      children_step = rw (next r i l, ex)
-
-      pub children_off : (x ≡ e → ⊥) → false ≡ all_of a (drop 2 r) e
-      children_off n = sym (w.left ∙ children_step ∙ rw (ne_eqb x e n))
-
-      pub children_on : x ≡ e → Children e (i + 1)
-      children_on n = record { left = w.left ∙ children_step ∙ rw (eq-eqb x e n) }
-
-  -- ---- records
-
-  module _ (o : ℕ) (f : F.Found) (eo : o ≡ get_or r 1 0) (ef : found_in f ≡ record_at a o) where
-    pub record_none : f ≡ F.TheVariants.Undeclared → false ≡ record_rule a r
+    pub record_none : none ≡ record_at a o → false ≡ record_rule a r
     unfolding record_rule
-    record_none g = let e : record_at a o ≡ none = sym ef ∙ ap found_in g in rw (← eo, e)
+    record_none e = rw (← eo, ← e)
 
-    module _ (y : ℕ) (p q : List ℕ) (b : Bool) (g : f ≡ F.TheVariants.As y) (ep : p ≡ part r 1 (length r)) (eq : q ≡ get_or (rows_of a TYPE) y []) (eb : b ≡ complete_in p q) where
-      whole : p ≡ drop 1 r
-      whole = ep ∙ take_all (length r - 1) (drop 1 r) (rw (length-drop 1 r) (omega arith))
-
-      pub record_lacks : not b ≡ true → false ≡ record_rule a r
+    module _ (y : ℕ) (p q : List ℕ) (b : Bool) (e : some y ≡ record_at a o) (ep : p ≡ items r) (eq : q ≡ get_or (rows_of a TYPE) y []) (eb : b ≡ complete_in p q) where
+      pub record_lacks : b ≡ false → false ≡ record_rule a r
       unfolding record_rule
-      record_lacks h =
-          let e : record_at a o ≡ some y = sym ef ∙ ap found_in g in
-          rw (← eo, e, ← eq, ← whole, ← eb, not-true b h)
+      record_lacks h = rw (← eo, ← e, ← eq, ← ep, ← eb, h)
 
-      pub record_some : (c : Bool) → not b ≡ false → c ≡ args_fit a (drop 2 r) y → c ≡ record_rule a r
+      pub record_some : (c : Bool) → b ≡ true → c ≡ args_fit a (drop 2 r) y → c ≡ record_rule a r
       unfolding record_rule
-      record_some c h ec =
-          let e : record_at a o ≡ some y = sym ef ∙ ap found_in g in
-          rw (← eo, e, ← eq, ← whole, ← eb, not-false b h) ec
+      record_some c h ec = rw (← eo, ← e, ← eq, ← ep, ← eb, h) ec
 
-  -- what is left of the texts and nodes, from word i on, decides the whole
-  pub record Args (y i : ℕ) : Type 0 where
-    pub left : args_fit a (drop 2 r) y ≡ args_fit a (drop i r) y
+  -- a row's words from word 2 on
+  pub rest_is : (l : List ℕ) → l ≡ part r 2 (length r) → l ≡ drop 2 r
+  rest_is l e = e ∙ take_rest r 2
 
-  pub args_start : (y : ℕ) → Args y 2
-  args_start y = record { left = refl }
+  -- what is left of the texts and nodes decides the whole
+  pub record Args (y : ℕ) (l : List ℕ) : Type 0 where
+    pub left : args_fit a (drop 2 r) y ≡ args_fit a l y
 
-  module _ (y i : ℕ) (w : Args y i) where
-    pub args_end : length r ≤ i → true ≡ args_fit a (drop 2 r) y
+  pub args_start : (y : ℕ) (l : List ℕ) → l ≡ part r 2 (length r) → Args y l
+  args_start y l e = record { left = ap (λ (k : List ℕ). args_fit a k y) (sym (rest_is l e)) }
+
+  module _ (y : ℕ) (l : List ℕ) (w : Args y l) where
+    pub args_end : length l < 2 → true ≡ args_fit a (drop 2 r) y
     unfolding args_fit
-    args_end h = sym (w.left ∙ rw (entries_end r i h))
+    args_end h = sym (w.left ∙ rw (entries_end l h))
 
-    module _ (l : i < length r) where
-      pub args_odd : length r - i < 2 → true ≡ args_fit a (drop 2 r) y
+    module _ (h : 2 ≤ length l) where
+      args_step : (x : ℕ) → x ≡ node_type_at a (get_or l 1 0) → args_fit a l y ≡ (on_some false (attribute_at a y (get_or l 0 0)) (eqb x) && args_fit a (take (length l - 2) (drop 2 l)) y)
       unfolding args_fit
-      args_odd h = sym (w.left ∙ rw (entries_one r i l (omega arith)))
+      args_step x ex = rw (entries_on l h, ex)
 
-      module _ (n : 2 ≤ length r - i) (t : ℕ) (f : F.Found) (et : t ≡ get_or r i 0) (ef : found_in f ≡ attribute_at a y t) where
-        args_step : (x : ℕ) → x ≡ child_at a r (i + 1) → args_fit a (drop i r) y ≡ (on_some false (attribute_at a y t) (eqb x) && args_fit a (drop (i + 2) r) y)
-        unfolding args_fit child_at
-        args_step x ex = rw (entries_on r i (omega arith), ← et, ex)
+      pub args_undeclared : none ≡ attribute_at a y (get_or l 0 0) → false ≡ args_fit a (drop 2 r) y
+      args_undeclared e = sym (w.left ∙ args_step (node_type_at a (get_or l 1 0)) refl ∙ rw (← e))
 
-        pub args_undeclared : f ≡ F.TheVariants.Undeclared → false ≡ args_fit a (drop 2 r) y
-        args_undeclared h =
-            let e : attribute_at a y t ≡ none = sym ef ∙ ap found_in h in
-            sym (w.left ∙ args_step (child_at a r (i + 1)) refl ∙ rw e)
+      module _ (z x : ℕ) (e : some z ≡ attribute_at a y (get_or l 0 0)) (ex : x ≡ node_type_at a (get_or l 1 0)) where
+        pub args_off : (x ≡ z → ⊥) → false ≡ args_fit a (drop 2 r) y
+        args_off k = sym (w.left ∙ args_step x ex ∙ rw (← e, ne_eqb x z k))
 
-        module _ (z x : ℕ) (h : f ≡ F.TheVariants.As z) (ex : x ≡ child_at a r (i + 1)) where
-          pub args_off : (x ≡ z → ⊥) → false ≡ args_fit a (drop 2 r) y
-          args_off k =
-              let e : attribute_at a y t ≡ some z = sym ef ∙ ap found_in h in
-              sym (w.left ∙ args_step x ex ∙ rw (e, ne_eqb x z k))
-
-          pub args_on : x ≡ z → Args y (i + 2)
-          args_on k =
-              let e : attribute_at a y t ≡ some z = sym ef ∙ ap found_in h in
-              record { left = w.left ∙ args_step x ex ∙ rw (e, eq-eqb x z k) }
+        pub args_on : x ≡ z → Args y (take (length l - 2) (drop 2 l))
+        args_on k = record { left = w.left ∙ args_step x ex ∙ rw (← e, eq-eqb x z k) }
 
 -- ---- slots
 

@@ -1,5 +1,5 @@
 -- A set of the kinds above a kind: its members are not asked again.
-use mathlib.Core.Path.{◌≡◌, refl, sym, subst, ◌∙◌}
+use mathlib.Core.Path.{◌≡◌, refl, sym, ap, subst, ◌∙◌}
 use mathlib.Core.Bool.{Bool, true}
 use mathlib.Core.List.{List, [], ◌∷◌}
 use Prim.Native.Nat.{ℕ, ◌+◌, ◌≤◌, ◌<◌}
@@ -8,15 +8,15 @@ use Rattle.cedar.proofs.Tools.{or_left, or_right}
 use lib.Dec.{eqb}
 use lib.ListN.{length, get_or, drop, replicate, drop_of_length-le}
 use Rattle.cedar.specs.Numbered.{mem_n}
-use Rattle.sheet.specs.Forms.{tag, VALUE, SHAPE}
+use Rattle.sheet.specs.Forms.{tag, VALUE}
 use Rattle.forms.specs.Tags.{ENTITY_VALUE}
 use Rattle.words.specs.Bits.{member, added}
 use Rattle.table.specs.Layout.{rows_of}
-use Rattle.fits.proofs.Walks.{next}
+use Rattle.std.proofs.lemmas.List.{drop_more}
 use Rattle.typesets.specs.Sets.{KIND_WORDS, Each, with_all}
 use Rattle.typesets.proofs.Members.{each_zeros, seen_is, each_added}
-use Rattle.typerows.specs.Types.{is_above_at}
-use Rattle.typing.specs.Rules.{ancestor_rule, above_at}
+use Rattle.typerows.specs.Types.{above_at, is_above_at}
+use Rattle.typing.specs.Rules.{ancestor_rule}
 use Rattle.typing.proofs.KeyRules.{ancestor_yes}
 
 -- ---- all numbers of a list
@@ -27,22 +27,22 @@ all_pass [] w f e h = e
 all_pass (y ∷ l) w f e h =
     all_pass l (added w y) f (each_added w f y e (h y (or_left (eqb y y) (mem_n y l) (eq-eqb y y refl)))) (λ x m. h x (or_right (eqb x y) (mem_n x l) m))
 
--- what is left of the shape's row q, from word i on, joins set v
-pub record Adding (a w q : List ℕ) (k : ℕ) (v : List ℕ) (i : ℕ) : Type 0 where
-  pub left : with_all w (above_at a k) ≡ with_all v (drop i q)
+-- what is left of the kinds above, l from kind i on, joins set v
+pub record Adding (a w l : List ℕ) (k : ℕ) (v : List ℕ) (i : ℕ) : Type 0 where
+  pub left : with_all w (above_at a k) ≡ with_all v (drop i l)
 
-module _ (a w q : List ℕ) (k : ℕ) where
-  pub adding_start : q ≡ get_or (rows_of a SHAPE) k [] → Adding a w q k w 3
-  adding_start eq = record { left = rw (← eq) }
+module _ (a w l : List ℕ) (k : ℕ) where
+  pub adding_start : l ≡ above_at a k → Adding a w l k w 0
+  adding_start e = record { left = ap (with_all w) (sym e) }
 
-  module _ (v : List ℕ) (i : ℕ) (d : Adding a w q k v i) where
-    pub adding_on : (x : ℕ) (u : List ℕ) → i < length q → x ≡ get_or q i 0 → u ≡ added v x → Adding a w q k u (i + 1)
+  module _ (v : List ℕ) (i : ℕ) (d : Adding a w l k v i) where
+    pub adding_on : (u : List ℕ) → i < length l → u ≡ added v (get_or l i 0) → Adding a w l k u (i + 1)
     unfolding with_all
-    adding_on x u h ex eu = record { left = d.left ∙ rw (next q i h, ← ex, eu) }
+    adding_on u h eu = record { left = d.left ∙ rw (drop_more l i 0 h, eu) }
 
-    pub adding_end : length q ≤ i → v ≡ with_all w (above_at a k)
+    pub adding_end : length l ≤ i → v ≡ with_all w (above_at a k)
     unfolding with_all
-    adding_end h = sym (d.left ∙ rw (drop_of_length-le q h))
+    adding_end h = sym (d.left ∙ rw (drop_of_length-le l h))
 
 -- the kinds above kind k
 pub above_set : (a : List ℕ) (k : ℕ) (w v : List ℕ) → w ≡ replicate KIND_WORDS 0 → v ≡ with_all w (above_at a k) → Each v (is_above_at a k)

@@ -132,10 +132,6 @@ module _ (a r : List ℕ) where
   unfoldable pub policy_rule : Bool
   policy_rule = eqb (sort_at a (child_at 3)) BOOL_SORT
 
--- the kinds above kind k
-abbrev pub above_at : List ℕ → ℕ → List ℕ
-above_at a k = drop 3 (get_or (rows_of a SHAPE) k [])
-
 module _ (a : List ℕ) (x k : ℕ) where
   -- attributes, tags and parents x of an entity of kind k
   unfoldable pub attributes_rule : Bool

@@ -3,20 +3,20 @@ ghost use Rattle.std.specs.Prelude.{◌≡◌};
 ghost use Rattle.sheet.specs.Forms.{ENTITY, CONTEXT, NODE, LINK};
 ghost use Rattle.fits.specs.Fit.{Known, Answered};
 ghost use Rattle.typing.specs.Rules.{shape_rule, context_rule, policy_rule, attributes_rule, tags_rule, ancestor_rule, parents_rule, entity_rule, typed_rule, Typed};
-ghost use Rattle.typerows.specs.Types.{is_above_at};
+ghost use Rattle.typerows.specs.Types.{above_at, is_above_at};
 ghost use Rattle.typesets.specs.Sets.{Each, with_all};
-ghost use Rattle.typing.specs.Rules.{above_at};
 
 use crate::links::link_typed;
 use crate::nodes::{child, node_typed};
-use fits::{Found, tags_fit, value_fits};
+use fits::{tags_fit, value_fits};
 use forms::{
     ACTION, CONTEXT, ENTITY, ENTITY_VALUE, LINK, MARK, NO_KEY, NODE, POLICY, PRINCIPAL,
     RECORD_VALUE, RESOURCE, SET_VALUE, SHAPE, VALUE,
 };
-use table::{count, item, row, tag};
+use table::{count, item, items, row, tag};
 use typerows::{
-    BOOL_SORT, attribute_type, is_above, is_action, is_bare, record_of, request, sort, tag_type,
+    BOOL_SORT, attribute_type, is_above, is_action, is_bare, kinds_above, record_of, request, sort,
+    tag_type,
 };
 use typesets::KIND_WORDS;
 use words::{add, has};
@@ -26,8 +26,7 @@ use words::{add, has};
 fn shape_typed(rows: &[u32], line: &[u32]) -> bool
     ensures { result ≡ shape_rule rows.now line.now }
 {
-    let f = record_of(rows, item(line, 1));
-    let Found::As(y) = f else {
+    let Some(y) = record_of(rows, item(line, 1)) else {
         return false;
     };
     if !is_action(rows, count(rows, SHAPE)) {
@@ -90,11 +89,8 @@ pub fn is_ancestor(rows: &[u32], value: u32, kind: u32) -> bool
 pub fn add_above(rows: &[u32], above: &mut [u32], kind: u32)
     ensures { above.new ≡ with_all above.old (above_at rows.now kind) }
 {
-    let q = row(rows, SHAPE, kind);
-    let mut i: usize = 3;
-    while i < q.len() {
-        add(above, item(q, i) as usize);
-        i += 1;
+    for &kind in kinds_above(rows, kind) {
+        add(above, kind as usize);
     }
 }
 
@@ -127,12 +123,10 @@ fn parents_typed(rows: &[u32], value: u32, kind: u32) -> bool
     }
     let mut above = [0u32; KIND_WORDS];
     add_above(rows, &mut above, kind);
-    let mut i: usize = 1;
-    while i < q.len() {
-        if !is_ancestor_by(rows, &above, item(q, i), kind) {
+    for &parent in items(q) {
+        if !is_ancestor_by(rows, &above, parent, kind) {
             return false;
         }
-        i += 1;
     }
     true
 }
@@ -162,10 +156,9 @@ fn context_typed(rows: &[u32], work: &mut [u32], line: &[u32]) -> bool
     ensures { Answered rows.now work.old work.new (context_rule rows.now line.now) result }
 {
     let y = item(line, 1);
-    let f = record_of(rows, y);
-    let Found::As(_) = f else {
+    if record_of(rows, y).is_none() {
         return false;
-    };
+    }
     let x = item(line, 2);
     if x == MARK {
         return true;

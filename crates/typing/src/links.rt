@@ -9,6 +9,7 @@ ghost use Rattle.typing.specs.Links.{slot_fits, slots_fit_in, child_in, seen_bel
 use fits::value_fits;
 use forms::{HASPATH, LIKE, NODE, OF_NODE, POLICY, SLOT, SLOT_P, code_at, form_of};
 use table::{item, row, tag};
+use words::cut;
 
 // A tree is never deeper.
 const DEPTH: u32 = 64;
@@ -106,15 +107,10 @@ fn below_fits(
     ensures { Answered rows.now work.old work.new (slots_fit_in rows.now p q (seen_below (seen_from (rows_of rows.now NODE) depth) node (refs NODE line.now))) result }
 {
     let form = form_of(tag(line));
-    let end = nodes_end(line);
-    let mut j = 0;
-    while j + 1 < end {
-        let code = code_at(form, j);
-        let child = item(line, j + 1);
-        if !child_fits(rows, work, code, child, node, p, q, depth) {
+    for (j, &child) in cut(line, 1, nodes_end(line)).iter().enumerate() {
+        if !child_fits(rows, work, code_at(form, j), child, node, p, q, depth) {
             return false;
         }
-        j += 1;
     }
     true
 }

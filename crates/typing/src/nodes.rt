@@ -7,14 +7,14 @@ ghost use Rattle.fits.specs.Fit.{kinds_in, Known, Answered};
 ghost use Rattle.typerows.specs.Types.{tags_are};
 ghost use Rattle.typing.specs.Rules.{node_type_at, all_of, args_fit, child_at, two_sorts, three_sorts, request_is, var_rule, eq_rule, in_rule, gettag_rule, contains_rule, two_sets_rule, if_rule, get_rule, has_rule, haspath_rule, set_rule, record_rule, slot_rule, node_rule};
 
-use fits::{Found, complete, kinds_end, value_fits};
+use fits::{complete, kinds, value_fits};
 use forms::{
     ACTION, ADD, ALL, AND, ANY, CONTAINS, CONTEXT, EMPTY, ENTITY_TYPE, EQ, ERR, GET, GETTAG, HAS,
     HASPATH, HASTAG, IF, IN, IS, LE, LIKE, LIT, LT, MUL, NEG, NODE, NOT, OR, PART_A, PART_P,
     PART_R, PRINCIPAL, RECORD_OF, RESOURCE, SET_OF, SLOT, SUB, TYPE, VAR,
 };
 use pathtypes::path_typed;
-use table::{item, row, tag};
+use table::{item, items, row, tag};
 use typerows::{
     BOOL_SORT, ENTITY_SORT, LONG_SORT, SET_SORT, STRING_SORT, attribute, declares, element_of,
     is_record, is_target, kinds_declare, kinds_have, record_of, request, sort, tag_type,
@@ -117,15 +117,9 @@ fn in_typed(rows: &[u32], line: &[u32]) -> bool
 fn kinds_tags_are(rows: &[u32], type_row: &[u32], ty: u32) -> bool
     ensures { result ≡ all_in (tags_are rows.now ty) (kinds_in type_row.now) }
 {
-    let end = kinds_end(type_row);
-    let mut i: usize = 1;
-    while i < end {
-        if tag_type(rows, item(type_row, i)) != ty {
-            return false;
-        }
-        i += 1;
-    }
-    true
+    kinds(type_row)
+        .iter()
+        .all(|&kind| tag_type(rows, kind) == ty)
 }
 
 fn gettag_typed(rows: &[u32], line: &[u32]) -> bool
@@ -147,8 +141,7 @@ fn contains_typed(rows: &[u32], line: &[u32]) -> bool
     if sort(rows, item(line, 1)) != BOOL_SORT {
         return false;
     }
-    let f = element_of(rows, child(rows, line, 2));
-    let Found::As(e) = f else {
+    let Some(e) = element_of(rows, child(rows, line, 2)) else {
         return false;
     };
     e == child(rows, line, 3)
@@ -218,21 +211,15 @@ fn haspath_typed(rows: &[u32], line: &[u32]) -> bool
 fn children_are(rows: &[u32], line: &[u32], ty: u32) -> bool
     ensures { result ≡ all_of rows.now (drop 2 line.now) ty }
 {
-    let mut i: usize = 2;
-    while i < line.len() {
-        if child(rows, line, i) != ty {
-            return false;
-        }
-        i += 1;
-    }
-    true
+    cut(line, 2, line.len())
+        .iter()
+        .all(|&node| node_type(rows, node) == ty)
 }
 
 fn set_typed(rows: &[u32], line: &[u32]) -> bool
     ensures { result ≡ set_rule rows.now line.now }
 {
-    let f = element_of(rows, item(line, 1));
-    let Found::As(e) = f else {
+    let Some(e) = element_of(rows, item(line, 1)) else {
         return false;
     };
     children_are(rows, line, e)
@@ -242,19 +229,15 @@ fn set_typed(rows: &[u32], line: &[u32]) -> bool
 fn args_fit(rows: &[u32], line: &[u32], ty: u32) -> bool
     ensures { result ≡ args_fit rows.now (drop 2 line.now) ty }
 {
-    let mut i: usize = 2;
-    while i < line.len() {
-        if line.len() - i < 2 {
-            return true;
-        }
-        let f = attribute(rows, ty, item(line, i));
-        let Found::As(z) = f else {
+    let mut rest = cut(line, 2, line.len());
+    while let [text, node, others @ ..] = rest {
+        let Some(z) = attribute(rows, ty, *text) else {
             return false;
         };
-        if child(rows, line, i + 1) != z {
+        if node_type(rows, *node) != z {
             return false;
         }
-        i += 2;
+        rest = others;
     }
     true
 }
@@ -262,13 +245,10 @@ fn args_fit(rows: &[u32], line: &[u32], ty: u32) -> bool
 fn record_typed(rows: &[u32], line: &[u32]) -> bool
     ensures { result ≡ record_rule rows.now line.now }
 {
-    let f = record_of(rows, item(line, 1));
-    let Found::As(y) = f else {
+    let Some(y) = record_of(rows, item(line, 1)) else {
         return false;
     };
-    let args = cut(line, 1, line.len());
-    let q = row(rows, TYPE, y);
-    if !complete(args, q) {
+    if !complete(items(line), row(rows, TYPE, y)) {
         return false;
     }
     args_fit(rows, line, y)

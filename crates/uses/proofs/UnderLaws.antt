@@ -1,24 +1,25 @@
 -- What is under a node, as the code gathers it. Assumes nothing.
-use mathlib.Core.Path.{◌≡◌, refl, sym, ap, ap₂, subst, ◌∙◌}
+use mathlib.Core.Path.{◌≡◌, refl, sym, ap, ap₂, ◌∙◌}
 use mathlib.Core.Bool.{Bool, true, false, cond}
 use mathlib.Core.List.{List, [], ◌∷◌}
-use Prim.Native.Nat.{ℕ, suc, ◌+◌, ◌%◌, ◌≤◌, ◌<◌, min}
+use Prim.Native.Nat.{ℕ, suc, ◌+◌, ◌≤◌, ◌<◌, min}
 use native.Mathlib.Numerals.{add-one}
 use native.Mathlib.Omega.{arith}
 use native.Mathlib.Decide.{dec_lt}
-use borrow.Author.Tests.{eqb-true, eq-eqb, ne_eqb, lt-ltb, le-ltb}
+use borrow.Author.Tests.{eq-eqb, ne_eqb, lt-ltb, le-ltb}
 use lib.Dec.{ltb, eqb}
-use lib.ListN.{length, get_or, drop}
-use Rattle.sheet.specs.Forms.{slot_at, tag, items, keep, refs_from, refs, NODE, POLICY}
+use lib.ListN.{length, get_or, drop, length-drop}
+use Rattle.sheet.specs.Forms.{tag, items, keep, refs_from, refs, NODE}
 use Rattle.table.specs.Layout.{SIZES, SLOTS, SPENT}
-use Rattle.forms.specs.Rows.{OF_TYPE, OF_NODE, code as code_of}
+use Rattle.forms.specs.Rows.{OF_TYPE, OF_NODE}
 use Rattle.forms.specs.Tags.{AND, SLOT, SLOT_P}
 use Rattle.uses.specs.declared.Under as D
-use Rattle.depths.specs.Codes.{key_in, form_code, again_code, codes_after, codes_at}
+use Rattle.depths.specs.declared.Places.{Places}
+use Rattle.depths.specs.Codes.{places_at, place_code, places_after}
 use Rattle.depths.specs.Depths.{OnTwo}
-use Rattle.uses.specs.Under.{NO_SLOT, FOR_PRINCIPAL, FOR_RESOURCE, FOR_BOTH, MANY, capped, both_of, own_slot, size_at, slots_at, under, gathered_on, under_row, spent_on}
-use Rattle.depths.proofs.FormTable.{code_at}
-use Rattle.depths.proofs.ThereLaws.{items_end}
+use Rattle.uses.specs.Under.{NO_SLOT, FOR_PRINCIPAL, FOR_RESOURCE, FOR_BOTH, MANY, capped, both_of, own_slot, size_at, slots_at, under, with_under, gathered_on, under_row, spent_on}
+use Rattle.depths.proofs.FormTable.{place_here, place_next}
+use Rattle.depths.proofs.ThereLaws.{item_in, items_end}
 use Rattle.depths.proofs.DepthLaws.{refs_at, on_type, on_first, on_second}
 use Rattle.uses.proofs.UseLaws.{refs_before}
 
@@ -32,12 +33,8 @@ capped_min n = go (dec_lt n MANY)
     go (yes h) = rw (lt-ltb n MANY h) (omega arith)
     go (no h) = rw (le-ltb n MANY (omega arith)) (omega arith)
 
-module _ (x y n : ℕ) (e : n ≡ x + y) where
-  pub sum_few : n < MANY → n ≡ capped (x + y)
-  sum_few h = omega (arith, capped_min (x + y))
-
-  pub sum_many : MANY ≤ n → MANY ≡ capped (x + y)
-  sum_many h = omega (arith, capped_min (x + y))
+pub sum_is : (n m : ℕ) → m ≡ min n MANY → m ≡ capped n
+sum_is n m h = h ∙ sym (capped_min n)
 
 module _ (x y : ℕ) where
   pub both_same : x ≡ y → x ≡ both_of x y
@@ -77,27 +74,18 @@ module _ (r : List ℕ) (t : ℕ) (e : t ≡ tag r) where
 -- ---- what is noted of a node
 
 module _ (a b : List ℕ) (x n : ℕ) (hn : n ≡ get_or a NODE 0) where
-  pub size_none : n ≤ x → 0 ≡ size_at a b x
-  unfolding size_at
-  size_none h = sym (rw (← hn, le-ltb x n h) refl)
+  pub noted_none : n ≤ x → under 0 NO_SLOT ≡ under (size_at a b x) (slots_at a b x)
+  unfolding size_at slots_at
+  noted_none h = sym (rw (← hn, le-ltb x n h) refl)
 
-  pub slots_none : n ≤ x → NO_SLOT ≡ slots_at a b x
-  unfolding slots_at
-  slots_none h = sym (rw (← hn, le-ltb x n h) refl)
-
-  module _ (h : x < n) (v : ℕ) where
-    pub size_some : v ≡ get_or b (SIZES + x) 0 → v ≡ size_at a b x
-    unfolding size_at
-    size_some e = e ∙ sym (rw (← hn, lt-ltb x n h) refl)
-
-    pub slots_some : v ≡ get_or b (SLOTS + x) 0 → v ≡ slots_at a b x
-    unfolding slots_at
-    slots_some e = e ∙ sym (rw (← hn, lt-ltb x n h) refl)
+  pub noted_some : x < n → (v s : ℕ) → v ≡ get_or b (SIZES + x) 0 → s ≡ get_or b (SLOTS + x) 0 → under v s ≡ under (size_at a b x) (slots_at a b x)
+  unfolding size_at slots_at
+  noted_some h v s hv hs = ap₂ under hv hs ∙ sym (rw (← hn, lt-ltb x n h) refl)
 
 -- the uses of the policies and of one more
-pub spent_sum : (a b r : List ℕ) (x i v n : ℕ) → x ≡ get_or b SPENT 0 → i ≡ get_or r 3 0 → v ≡ size_at a b i → n ≡ capped (x + v) → n ≡ spent_on a b r
+pub spent_sum : (a b r : List ℕ) (x i n : ℕ) (v : D.Under) → x ≡ get_or b SPENT 0 → i ≡ get_or r 3 0 → v ≡ under (size_at a b i) (slots_at a b i) → n ≡ capped (x + v.size) → n ≡ spent_on a b r
 unfolding spent_on
-spent_sum a b r x i v n hx hi hv hn = hn ∙ ap₂ (λ (y z : ℕ). capped (y + z)) hx (hv ∙ ap (size_at a b) hi)
+spent_sum a b r x i n v hx hi hv hn = hn ∙ ap₂ (λ (y z : ℕ). capped (y + z)) hx (ap (λ (u : D.Under). u.size) hv ∙ ap (size_at a b) hi)
 
 -- ---- with one node more
 
@@ -106,10 +94,9 @@ module _ (a b : List ℕ) (c x : ℕ) (u : D.Under) where
   unfolding gathered_on
   node_other n = sym (rw (ne_eqb c OF_NODE n) refl)
 
-  pub node_more : c ≡ OF_NODE → (v n s m : ℕ) → v ≡ size_at a b x → n ≡ capped (u.size + v) → s ≡ slots_at a b x → m ≡ both_of u.slots s
-      → under n m ≡ gathered_on a b (keep (eqb c OF_NODE) x []) u
+  pub node_more : c ≡ OF_NODE → (v w : D.Under) → v ≡ under (size_at a b x) (slots_at a b x) → w ≡ with_under u v → w ≡ gathered_on a b (keep (eqb c OF_NODE) x []) u
   unfolding gathered_on
-  node_more e v n s m hv hn hs hm = rw (eq-eqb c OF_NODE e) (ap₂ under (hn ∙ ap (λ (y : ℕ). capped (u.size + y)) hv) (hm ∙ ap (both_of u.slots) hs))
+  node_more e v w hv hw = rw (eq-eqb c OF_NODE e) (hw ∙ ap (with_under u) hv)
 
 gathered_keep : (a b : List ℕ) (v : Bool) (x : ℕ) (l : List ℕ) (u : D.Under) → gathered_on a b (keep v x l) u ≡ gathered_on a b l (gathered_on a b (keep v x []) u)
 unfolding gathered_on
@@ -118,43 +105,32 @@ gathered_keep a b false x l u = refl
 
 -- ---- the nodes of a row, in turn
 
-pub record Gathering (a b r : List ℕ) (again w : ℕ) (u : D.Under) (j : ℕ) : Type 0 where
-  pub group : again ≡ again_code (tag r)
+pub record Gathering (a b r : List ℕ) (p : Places) (u : D.Under) (j : ℕ) : Type 0 where
   pub left : under_row a b r ≡ gathered_on a b (refs_from NODE (tag r) j (drop (suc j) r)) u
-  pub codes : w ≡ codes_at (tag r) j
-  pub small : w < 4294967296
-  pub near : j ≤ length r
+  pub places : p ≡ places_at (tag r) j
 
-pub gathering_start : (a b r : List ℕ) (t again w s : ℕ) → t ≡ tag r → again ≡ again_code t → w ≡ form_code t → w < 4294967296 → s ≡ own_slot r → Gathering a b r again w (under 1 s) 0
-unfolding codes_at under_row refs
-gathering_start a b r t again w s ht ha hw small hs =
+pub gathering_start : (a b r : List ℕ) (t s : ℕ) (p : Places) → t ≡ tag r → p ≡ places_at t 0 → s ≡ own_slot r → Gathering a b r p (under 1 s) 0
+unfolding under_row refs
+gathering_start a b r t s p ht hp hs =
     record {
-      group = ha ∙ ap again_code ht;
       left = ap (λ (y : ℕ). gathered_on a b (refs_from NODE (tag r) 0 (items r)) (under 1 y)) (sym hs);
-      codes = hw ∙ ap form_code ht;
-      small = small;
-      near = omega arith;
+      places = hp ∙ ap (λ (x : ℕ). places_at x 0) ht;
     }
 
-module _ (a b r : List ℕ) (again w : ℕ) (u : D.Under) (j : ℕ) (i : Gathering a b r again w u j) where
-  pub gathering_on : (t x c : ℕ) → t ≡ tag r → j + 1 < length r → c ≡ w % 256 → x ≡ get_or r (j + 1) 0 → (v : D.Under) → v ≡ gathered_on a b (keep (eqb c OF_NODE) x []) u
-      → (w' : ℕ) → w' ≡ codes_after again w → w' < 4294967296 → Gathering a b r again w' v (j + 1)
-  unfolding codes_at
-  gathering_on t x c ht h hc hx v hv w' hw small =
-      let code_here : (c ≡ code_of (slot_at t j)) × (key_in (slot_at t j) ≤ POLICY) = code_at t j w c (i.codes ∙ ap (λ (y : ℕ). codes_at y j) (sym ht)) hc in
+module _ (a b r : List ℕ) (p : Places) (u : D.Under) (j : ℕ) (i : Gathering a b r p u j) where
+  pub gathering_on : (x c : ℕ) → j < length (items r) → c ≡ place_code p → x ≡ get_or (items r) j 0 → (v : D.Under) → v ≡ gathered_on a b (keep (eqb c OF_NODE) x []) u → (q : Places) → q ≡ places_after p → Gathering a b r q v (j + 1)
+  gathering_on x c h hc hx v hv q hq =
+      let here = item_in r j x h hx in
       let rest = refs_from NODE (tag r) (suc j) (drop (suc (suc j)) r) in
-      subst (Gathering a b r again w' v) (sym (add-one j))
-      (record {
-        group = i.group;
-        left = i.left ∙ ap (λ (l : List ℕ). gathered_on a b l u) (refs_at NODE (omega arith) r j t x c ht h hx code_here) ∙ gathered_keep a b (eqb c OF_NODE) x rest u ∙ ap (gathered_on a b rest) (sym hv);
-        codes = hw ∙ ap₂ codes_after i.group i.codes;
-        small = small;
-        near = omega arith;
-      })
+      record {
+        left = i.left ∙ ap (λ (l : List ℕ). gathered_on a b l u) (refs_at NODE (omega arith) r j (tag r) x c refl here.0 here.1 (place_here (tag r) j p c i.places hc)) ∙ gathered_keep a b (eqb c OF_NODE) x rest u ∙ ap (gathered_on a b rest) (sym hv)
+            ∙ ap (λ (n : ℕ). gathered_on a b (refs_from NODE (tag r) n (drop (suc n) r)) v) (sym (add-one j));
+        places = place_next (tag r) j p q i.places hq;
+      }
 
-  pub gathering_end : length r ≤ j + 1 → u ≡ under_row a b r
+  pub gathering_end : length (items r) ≤ j → u ≡ under_row a b r
   unfolding gathered_on
-  gathering_end h = sym (i.left ∙ ap (λ (l : List ℕ). gathered_on a b (refs_from NODE (tag r) j l) u) (items_end r j h))
+  gathering_end h = sym (i.left ∙ ap (λ (l : List ℕ). gathered_on a b (refs_from NODE (tag r) j l) u) (items_end r j (omega (arith, length-drop 1 r))))
 
 -- ---- rows without nodes, and nodes that work on two
 
@@ -171,21 +147,10 @@ refs_two r two =
     (refs_at NODE (omega arith) r 2 (tag r) (get_or r 3 0) OF_NODE refl (omega (arith, two.long)) refl (on_second [] [] r two)
     ∙ ap (λ (l : List ℕ). get_or r 3 0 ∷ refs_from NODE (tag r) 3 l) (items_end r 3 (omega (arith, two.long))))
 
-both_none : (s : ℕ) → both_of NO_SLOT s ≡ s
-unfolding both_of
-both_none s = go (eqb NO_SLOT s) refl
-  where
-    go : (v : Bool) → eqb NO_SLOT s ≡ v → cond v NO_SLOT s ≡ s
-    go true e = eqb-true NO_SLOT s e
-    go false e = refl
-
-pub under_two_law : (a b r : List ℕ) → OnTwo r → (x y v n v' n' s s' m : ℕ) → x ≡ get_or r 2 0 → y ≡ get_or r 3 0 → v ≡ size_at a b x → n ≡ capped (1 + v) → v' ≡ size_at a b y → n' ≡ capped (n + v')
-    → s ≡ slots_at a b x → s' ≡ slots_at a b y → m ≡ both_of s s' → under n' m ≡ under_row a b r
+pub under_two_law : (a b r : List ℕ) → OnTwo r → (x y : ℕ) (u v w w' : D.Under) → x ≡ get_or r 2 0 → y ≡ get_or r 3 0 → u ≡ under (size_at a b x) (slots_at a b x) → w ≡ with_under (under 1 NO_SLOT) u
+    → v ≡ under (size_at a b y) (slots_at a b y) → w' ≡ with_under w v → w' ≡ under_row a b r
 unfolding under_row gathered_on
-under_two_law a b r two x y v n v' n' s s' m hx hy hv hn hv' hn' hs hs' hm =
+under_two_law a b r two x y u v w w' hx hy hu hw hv hw' =
     let none : own_slot r ≡ NO_SLOT = sym (slot_none r (tag r) refl (λ q. absurd (omega (arith, two.high, q)))) in
-    let first : n ≡ capped (1 + size_at a b (get_or r 2 0)) = hn ∙ ap (λ (z : ℕ). capped (1 + z)) (hv ∙ ap (size_at a b) hx) in
-    let size : n' ≡ capped (capped (1 + size_at a b (get_or r 2 0)) + size_at a b (get_or r 3 0)) = hn' ∙ ap₂ (λ (z z' : ℕ). capped (z + z')) first (hv' ∙ ap (size_at a b) hy) in
-    let left : s ≡ both_of (own_slot r) (slots_at a b (get_or r 2 0)) = hs ∙ ap (slots_at a b) hx ∙ sym (both_none (slots_at a b (get_or r 2 0))) ∙ ap (λ (z : ℕ). both_of z (slots_at a b (get_or r 2 0))) (sym none) in
-    let slots : m ≡ both_of (both_of (own_slot r) (slots_at a b (get_or r 2 0))) (slots_at a b (get_or r 3 0)) = hm ∙ ap₂ both_of left (hs' ∙ ap (slots_at a b) hy) in
-    rw (refs_two r two) (ap₂ under size slots)
+    let noted : ℕ → D.Under = λ z. under (size_at a b z) (slots_at a b z) in
+    rw (refs_two r two, none) (hw' ∙ ap₂ with_under (hw ∙ ap (with_under (under 1 NO_SLOT)) (hu ∙ ap noted hx)) (hv ∙ ap noted hy))

@@ -2,7 +2,7 @@
 use mathlib.Core.Path.{◌≡◌, refl, sym, ap, ap₂, subst, ◌∙◌}
 use mathlib.Core.Bool.{Bool, true, false, ◌||◌}
 use mathlib.Core.List.{List, [], ◌∷◌}
-use Prim.Native.Nat.{ℕ, suc, ◌+◌, ◌%◌, ◌≤◌, ◌<◌}
+use Prim.Native.Nat.{ℕ, suc, ◌+◌, ◌≤◌, ◌<◌}
 use native.Mathlib.Numerals.{add-one}
 use native.Mathlib.Omega.{arith}
 use native.Mathlib.Decide.{dec_lt}
@@ -17,11 +17,12 @@ use Rattle.table.specs.Layout.{USES, SIZES}
 use Rattle.forms.specs.Rows.{OF_TYPE, OF_NODE, code as code_of}
 use Rattle.forms.specs.Tags.{AND, POLICY_LINE}
 use Rattle.forms.proofs.Table.{node_key}
-use Rattle.depths.specs.Codes.{key_in, form_code, again_code, codes_after, codes_at}
+use Rattle.depths.specs.declared.Places.{Places}
+use Rattle.depths.specs.Codes.{key_in, places_at, place_code, places_after}
 use Rattle.depths.specs.Depths.{OnTwo}
-use Rattle.depths.proofs.FormTable.{code_at, no_node, no_node_after}
+use Rattle.depths.proofs.FormTable.{place_here, place_next, no_node, no_node_after}
 use Rattle.uses.specs.Uses.{uses_in, BY_NODE, BY_POLICY, Marked}
-use Rattle.depths.proofs.ThereLaws.{items_end, or_false}
+use Rattle.depths.proofs.ThereLaws.{item_in, items_end, or_false}
 use Rattle.depths.proofs.DepthLaws.{line_code, refs_at, on_type, on_first, on_second}
 
 -- ---- one node, marked with m
@@ -136,37 +137,31 @@ module _ (a b₀ r b : List ℕ) (j : ℕ) (i : Using a b₀ r b j) where
         above = i.above;
       }
 
--- the same, with what the places left refer to
-pub record Marking (a b₀ r b : List ℕ) (again w j : ℕ) : Type 0 where
-  pub group : again ≡ again_code (tag r)
+-- the same, with the places left
+pub record Marking (a b₀ r b : List ℕ) (p : Places) (j : ℕ) : Type 0 where
   pub marks : Using a b₀ r b j
-  pub codes : w ≡ codes_at (tag r) j
-  pub small : w < 4294967296
+  pub places : p ≡ places_at (tag r) j
 
-pub marking_start : (a b r : List ℕ) (t again w : ℕ) → t ≡ tag r → again ≡ again_code t → w ≡ form_code t → w < 4294967296 → Marking a b r b again w 0
-unfolding codes_at
-marking_start a b r t again w ht ha hw small = record { group = ha ∙ ap again_code ht; small = small; marks = using_start a b r; codes = hw ∙ ap form_code ht }
+pub marking_start : (a b r : List ℕ) (t : ℕ) (p : Places) → t ≡ tag r → p ≡ places_at t 0 → Marking a b r b p 0
+marking_start a b r t p ht hp = record { marks = using_start a b r; places = hp ∙ ap (λ (x : ℕ). places_at x 0) ht }
 
-module _ (a b₀ r b : List ℕ) (again w j : ℕ) (i : Marking a b₀ r b again w j) where
-  module _ (t x c : ℕ) (ht : t ≡ tag r) (h : j + 1 < length r) (hc : c ≡ w % 256) (hx : x ≡ get_or r (j + 1) 0) (b' : List ℕ) (v : Bool) (m : Marked BY_NODE a b (keep (eqb c OF_NODE) x []) b' v) where
-    code_here : (c ≡ code_of (slot_at t j)) × (key_in (slot_at t j) ≤ POLICY)
-    code_here = code_at t j w c (i.codes ∙ ap (λ (y : ℕ). codes_at y j) (sym ht)) hc
+module _ (a b₀ r b : List ℕ) (p : Places) (j : ℕ) (i : Marking a b₀ r b p j) where
+  module _ (x c : ℕ) (h : j < length (items r)) (hc : c ≡ place_code p) (hx : x ≡ get_or (items r) j 0) (b' : List ℕ) (v : Bool) (m : Marked BY_NODE a b (keep (eqb c OF_NODE) x []) b' v) where
+    here : (j + 1 < length r) × (x ≡ get_or r (j + 1) 0)
+    here = item_in r j x h hx
 
     pub marking_twice : v ≡ true → Marked BY_NODE a b₀ (refs NODE r) b' true
-    marking_twice = using_twice a b₀ r b j i.marks t x c ht h hx code_here b' v m
+    marking_twice = using_twice a b₀ r b j i.marks (tag r) x c refl here.0 here.1 (place_here (tag r) j p c i.places hc) b' v m
 
-    pub marking_on : v ≡ false → length b' ≡ length b → (w' : ℕ) → w' ≡ codes_after again w → w' < 4294967296 → Marking a b₀ r b' again w' (j + 1)
-    unfolding codes_at
-    marking_on e l w' hw low' =
+    pub marking_on : v ≡ false → length b' ≡ length b → (q : Places) → q ≡ places_after p → Marking a b₀ r b' q (j + 1)
+    marking_on e l q hq =
         record {
-          group = i.group;
-          small = low';
-          marks = using_on a b₀ r b j i.marks t x c ht h hx code_here b' v m e l;
-          codes = hw ∙ ap₂ codes_after i.group i.codes ∙ ap (codes_at (tag r)) (sym (add-one j));
+          marks = using_on a b₀ r b j i.marks (tag r) x c refl here.0 here.1 (place_here (tag r) j p c i.places hc) b' v m e l;
+          places = place_next (tag r) j p q i.places hq;
         }
 
-  pub marking_end : length r ≤ j + 1 → Marked BY_NODE a b₀ (refs NODE r) b false
-  marking_end = using_end a b₀ r b j i.marks
+  pub marking_end : length (items r) ≤ j → Marked BY_NODE a b₀ (refs NODE r) b false
+  marking_end h = using_end a b₀ r b j i.marks (omega (arith, length-drop 1 r))
 
 -- ---- rows without nodes
 

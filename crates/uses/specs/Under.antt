@@ -47,6 +47,10 @@ slots_at a b x = cond (ltb x (get_or a NODE 0)) (get_or b (SLOTS + x) 0) NO_SLOT
 abbrev pub under : ℕ → ℕ → D.Under
 under n s = record { size = n; slots = s }
 
+-- what is under one node and another
+abbrev pub with_under : D.Under → D.Under → D.Under
+with_under u v = under (capped (u.size + v.size)) (both_of u.slots v.slots)
+
 -- with what is noted of nodes l
 unfoldable pub gathered_on : List ℕ → List ℕ → List ℕ → D.Under → D.Under
 gathered_on a b [] u = u

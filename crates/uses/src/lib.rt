@@ -6,14 +6,15 @@ ghost use Rattle.sheet.specs.Forms.{key_of, keep, refs, NODE};
 ghost use Rattle.forms.specs.Rows.{OF_NODE};
 ghost use Rattle.depths.specs.Depths.{OnTwo};
 ghost use Rattle.uses.specs.Uses.{BY_NODE, BY_POLICY, Marked};
-ghost use Rattle.uses.specs.Under.{capped, both_of, own_slot, size_at, slots_at, gathered_on, under_row, spent_on};
+ghost use Rattle.uses.specs.Under.{capped, both_of, own_slot, size_at, slots_at, under, with_under, gathered_on, under_row, spent_on};
 
-use depths::{again_of, codes_after, is_on_two};
-use forms::{AND, NODE, OF_NODE, POLICY, SLOT, SLOT_P, form_of, slots_of};
-use table::{SIZES, SLOTS, SPENT, USES, count, item, tag};
+use depths::{Places, is_on_two};
+use forms::{AND, NODE, OF_NODE, POLICY, SLOT, SLOT_P};
+use table::{SIZES, SLOTS, SPENT, USES, count, item, items, tag};
 use words::{put, read};
 
 // Whether a node is a slot, and which: that of the principal, that of the resource. Both where nodes under one have both.
+// kept: they stand in a word of the lent slice for each node, so they are numbers (no heap, fixed memory).
 pub const NO_SLOT: u32 = 0;
 
 pub const FOR_PRINCIPAL: u32 = 1;
@@ -32,15 +33,23 @@ pub struct Under {
     pub slots: u32,
 }
 
+impl Under {
+    // With what is under another node.
+    fn with(self, other: Under) -> Under
+        ensures { result ≡ with_under self other }
+    {
+        Under {
+            size: sum_of(self.size, other.size),
+            slots: both_of(self.slots, other.slots),
+        }
+    }
+}
+
 // The sum, or `MANY`.
 fn sum_of(x: u32, y: u32) -> u32
     ensures { result ≡ capped (x + y) }
 {
-    let n = x as usize + y as usize;
-    if n < MANY as usize {
-        return n as u32;
-    }
-    MANY
+    (x as usize + y as usize).min(MANY as usize) as u32
 }
 
 // The slots of both.
@@ -73,59 +82,44 @@ fn slot_of(line: &[u32]) -> u32
     FOR_RESOURCE
 }
 
-// The nodes under node `x`.
-fn size_at(rows: &[u32], work: &[u32], x: u32) -> u32
-    ensures { result ≡ size_at rows.now work.now x }
+// What is noted of node `x`: nothing of one that is not there.
+pub fn noted(rows: &[u32], work: &[u32], x: u32) -> Under
+    ensures { result ≡ under (size_at rows.now work.now x) (slots_at rows.now work.now x) }
 {
-    let n = count(rows, NODE);
-    if x >= n {
-        return 0;
+    if x >= count(rows, NODE) {
+        return Under {
+            size: 0,
+            slots: NO_SLOT,
+        };
     }
-    read(work, SIZES + x as usize)
+    Under {
+        size: read(work, SIZES + x as usize),
+        slots: read(work, SLOTS + x as usize),
+    }
 }
 
-// The slots under node `x`.
-pub fn slots_at(rows: &[u32], work: &[u32], x: u32) -> u32
-    ensures { result ≡ slots_at rows.now work.now x }
-{
-    let n = count(rows, NODE);
-    if x >= n {
-        return NO_SLOT;
-    }
-    read(work, SLOTS + x as usize)
-}
-
-// With the nodes under node `x`, if its slot refers to one.
+// With what is noted of node `x`, if its slot refers to one.
 fn with_node(rows: &[u32], work: &[u32], slot: u8, x: u32, under: Under) -> Under
     ensures { result ≡ gathered_on rows.now work.now (keep (eqb slot OF_NODE) x []) under }
 {
     if slot != OF_NODE {
         return under;
     }
-    let size = sum_of(under.size, size_at(rows, work, x));
-    let slots = both_of(under.slots, slots_at(rows, work, x));
-    Under { size, slots }
+    under.with(noted(rows, work, x))
 }
 
 // What is under a row of a node.
 fn under_listed(rows: &[u32], work: &[u32], line: &[u32]) -> Under
     ensures { result ≡ under_row rows.now work.now line.now }
 {
-    let t = tag(line);
-    let f = form_of(t);
-    let again = again_of(f);
-    let mut slots = slots_of(f);
+    let mut places = Places::of(tag(line));
     let mut under = Under {
         size: 1,
         slots: slot_of(line),
     };
-    let mut j = 0;
-    while j + 1 < line.len() {
-        let slot = (slots % 256) as u8;
-        let x = item(line, j + 1);
-        under = with_node(rows, work, slot, x, under);
-        slots = codes_after(slots, again);
-        j += 1;
+    for &x in items(line) {
+        under = with_node(rows, work, places.slot(), x, under);
+        places = places.after();
     }
     under
 }
@@ -135,19 +129,20 @@ fn under_two(rows: &[u32], work: &[u32], line: &[u32]) -> Under
     requires { OnTwo line.now }
     ensures { result ≡ under_row rows.now work.now line.now }
 {
-    let x = item(line, 2);
-    let y = item(line, 3);
-    let size = sum_of(sum_of(1, size_at(rows, work, x)), size_at(rows, work, y));
-    let slots = both_of(slots_at(rows, work, x), slots_at(rows, work, y));
-    Under { size, slots }
+    let alone = Under {
+        size: 1,
+        slots: NO_SLOT,
+    };
+    alone
+        .with(noted(rows, work, item(line, 2)))
+        .with(noted(rows, work, item(line, 3)))
 }
 
 // The same of every node's row; those of the forms before the operations refer to no node.
 pub fn under_of(rows: &[u32], work: &[u32], line: &[u32]) -> Under
     ensures { result ≡ under_row rows.now work.now line.now }
 {
-    let t = tag(line);
-    if t < AND {
+    if tag(line) < AND {
         return Under {
             size: 1,
             slots: NO_SLOT,
@@ -163,10 +158,11 @@ pub fn under_of(rows: &[u32], work: &[u32], line: &[u32]) -> Under
 pub fn uses_with(rows: &[u32], work: &[u32], line: &[u32]) -> u32
     ensures { result ≡ spent_on rows.now work.now line.now }
 {
-    sum_of(read(work, SPENT), size_at(rows, work, item(line, 3)))
+    sum_of(read(work, SPENT), noted(rows, work, item(line, 3)).size)
 }
 
 // What a used node is marked with: by a node, which uses it alone, or by a policy.
+// kept: it stands in a word of the lent slice for each node, so it is a number (no heap, fixed memory).
 const BY_NODE: u32 = 1;
 
 const BY_POLICY: u32 = 2;
@@ -178,13 +174,11 @@ fn use_node(rows: &[u32], work: &mut [u32], slot: u8, x: u32, mark: u32) -> bool
     if slot != OF_NODE {
         return false;
     }
-    let n = count(rows, NODE);
-    if x >= n {
+    if x >= count(rows, NODE) {
         return false;
     }
     let i = USES + x as usize;
-    let u = read(work, i);
-    if u == BY_NODE {
+    if read(work, i) == BY_NODE {
         return true;
     }
     put(work, i, mark);
@@ -195,19 +189,12 @@ fn use_node(rows: &[u32], work: &mut [u32], slot: u8, x: u32, mark: u32) -> bool
 fn use_listed(rows: &[u32], work: &mut [u32], line: &[u32]) -> bool
     ensures { Marked BY_NODE rows.now work.old (refs NODE line.now) work.new result }
 {
-    let t = tag(line);
-    let f = form_of(t);
-    let again = again_of(f);
-    let mut slots = slots_of(f);
-    let mut j = 0;
-    while j + 1 < line.len() {
-        let slot = (slots % 256) as u8;
-        let x = item(line, j + 1);
-        if use_node(rows, work, slot, x, BY_NODE) {
+    let mut places = Places::of(tag(line));
+    for &x in items(line) {
+        if use_node(rows, work, places.slot(), x, BY_NODE) {
             return true;
         }
-        slots = codes_after(slots, again);
-        j += 1;
+        places = places.after();
     }
     false
 }
@@ -218,19 +205,15 @@ fn use_two(rows: &[u32], work: &mut [u32], line: &[u32]) -> bool
     ensures { Marked BY_NODE rows.now work.old (refs NODE line.now) work.new result }
 {
     let y = item(line, 2);
-    if use_node(rows, work, OF_NODE, y, BY_NODE) {
-        return true;
-    }
     let z = item(line, 3);
-    use_node(rows, work, OF_NODE, z, BY_NODE)
+    use_node(rows, work, OF_NODE, y, BY_NODE) || use_node(rows, work, OF_NODE, z, BY_NODE)
 }
 
 // The same of every node's row; those of the forms before the operations use no node.
 pub fn use_nodes(rows: &[u32], work: &mut [u32], line: &[u32]) -> bool
     ensures { Marked BY_NODE rows.now work.old (refs NODE line.now) work.new result }
 {
-    let t = tag(line);
-    if t < AND {
+    if tag(line) < AND {
         return false;
     }
     if is_on_two(line) {

@@ -1,8 +1,8 @@
 -- A row written word by word past the end of a log, and made. Assumes nothing.
-use mathlib.Core.Path.{◌≡◌, refl, sym, ap, ◌∙◌}
+use mathlib.Core.Path.{◌≡◌, refl, sym, ap, subst, ◌∙◌}
 use mathlib.Core.List.{List, [], ◌∷◌, ◌++◌, append_assoc, append-nil}
 use mathlib.Core.Option.{none}
-use Prim.Native.Nat.{ℕ, zero, suc, ◌+◌, ◌-◌, ◌≤◌, ◌<◌}
+use Prim.Native.Nat.{ℕ, zero, suc, ◌+◌, ◌-◌, ◌/◌, ◌≤◌, ◌<◌}
 use native.Mathlib.Nat.{le_refl}
 use native.Mathlib.Omega.{arith}
 use native.Mathlib.Decide.{dec_le}
@@ -10,11 +10,11 @@ use lib.ListN.{length, get_or, take, drop, length-drop, length-append}
 use lib.Seq.{take-nil, take-take, take-append-le, drop_at, get_or-take, length-take-le}
 use Rattle.words.specs.Log.{part, Room, Holds, Appended, pushed}
 use Rattle.words.proofs.Logs.{log_length, append_holds, append_room, append_below, append_length, appended_is, appended_full}
-use Rattle.words.proofs.Stores.{get_d_below, length_part}
+use Rattle.words.proofs.Stores.{get_d_below, length_part, part_at}
 use Rattle.cedar.specs.Making.{sort_n}
 use Rattle.forms.specs.Tags.{SET_VALUE, RECORD_VALUE}
-use Rattle.value.specs.declared.Entry.{Entry}
-use Rattle.value.specs.declared.Entry.TheVariants.{At, Nothing}
+use Rattle.std.specs.Prelude.{Option, Some, None}
+use Rattle.std.specs.Simd.{first_chunks}
 use Rattle.value.specs.Shapes.{value_found}
 use Rattle.value.specs.Made.{ROW, SOURCE, Made, MadeBeside, values_in, least_of, set_row, pairs_of, record_row, push_all, written}
 use Rattle.value.proofs.Lists.{uncons2}
@@ -101,11 +101,11 @@ module _ {b b' : List ℕ} {p p' x : ℕ} (h : Room b p) (w : Appended b p (x �
   pushed_base at l = sym (take-take at p b' l) ∙ ap (take at) (append_below w) ∙ take-take at p b l
 
 module _ (b₀ : List ℕ) (at start bt : ℕ) (h : bt ≤ at) (b : List ℕ) (p lo : ℕ) (g : Filling b₀ at start bt b p lo)
-    (rows : List ℕ) (er : rows ≡ part b start bt) (e : Entry) (ee : value_found e ≡ least_of lo none (values_in rows)) where
+    (rows : List ℕ) (er : rows ≡ part b start bt) (e : Option ℕ) (ee : value_found e ≡ least_of lo none (values_in rows)) where
   the_least : least_of lo none (values_in (part b₀ start bt)) ≡ value_found e
   the_least = ap (λ (l : List ℕ). least_of lo none (values_in l)) (sym (er ∙ part_same b₀ b at start bt g.base h)) ∙ sym ee
 
-  pub fill_end : e ≡ Nothing → Holds at b p (push_all (take at b₀) (sort_n (values_in (part b₀ start bt))))
+  pub fill_end : e ≡ None → Holds at b p (push_all (take at b₀) (sort_n (values_in (part b₀ start bt))))
   unfolding push_all
   fill_end z =
       record {
@@ -114,7 +114,7 @@ module _ (b₀ : List ℕ) (at start bt : ℕ) (h : bt ≤ at) (b : List ℕ) (p
         grows = g.grows;
       }
 
-  module _ (x : ℕ) (z : e ≡ At x) where
+  module _ (x : ℕ) (z : e ≡ Some x) where
     next : from_n lo (sort_n (values_in (part b₀ start bt))) ≡ x ∷ from_n (x + 1) (sort_n (values_in (part b₀ start bt)))
     next = least_some lo x (values_in (part b₀ start bt)) (the_least ∙ ap value_found z)
 
@@ -167,7 +167,7 @@ module _ (r b₀ : List ℕ) (at start bt : ℕ) (h : bt ≤ at) (b : List ℕ) 
   unfolding push_all
   done z = record { is = sym (g.left ∙ ap (push_all (take p b)) z); low = g.room.low; grows = g.grows }
 
-  pub pair_texts : length r < i + 2 → Holds at b p (push_all (take at b₀) (pairs_of (drop 2 r) (part b₀ start bt)))
+  pair_texts : length r < i + 2 → Holds at b p (push_all (take at b₀) (pairs_of (drop 2 r) (part b₀ start bt)))
   pair_texts l =
       let n : length (drop i r) < 2 = rw (length-drop i r) (omega arith) in
       done (few_texts (drop i r) (part b₀ q bt) n)
@@ -196,7 +196,7 @@ module _ (r b₀ : List ℕ) (at start bt : ℕ) (h : bt ≤ at) (b : List ℕ) 
     unfolding pairs_of
     pair = rw (four, uncons2 r i li)
 
-    pub pair_on : (b₁ : List ℕ) (p₁ : ℕ) (b₂ : List ℕ) (p₂ : ℕ) → Appended b p (get_or r i 0 ∷ []) b₁ p₁ → Appended b₁ p₁ (v ∷ []) b₂ p₂
+    pair_on : (b₁ : List ℕ) (p₁ : ℕ) (b₂ : List ℕ) (p₂ : ℕ) → Appended b p (get_or r i 0 ∷ []) b₁ p₁ → Appended b₁ p₁ (v ∷ []) b₂ p₂
         → Pairing r b₀ at start bt b₂ p₂ (i + 2) (q + ROW)
     unfolding push_all
     pair_on b₁ p₁ b₂ p₂ w₁ w₂ =
@@ -212,6 +212,38 @@ module _ (r b₀ : List ℕ) (at start bt : ℕ) (h : bt ≤ at) (b : List ℕ) 
               ∙ ap (λ (l : List ℕ). push_all l (pairs_of (drop (i + 2) r) (part b₀ (q + ROW) bt)))
               (sym (pushed_log m w₂ ∙ ap (λ (l : List ℕ). pushed l v) (pushed_log g.room w₁)));
         }
+
+-- the texts of a node with their nodes, in pairs, of which those before number j are written
+abbrev pub text_at : ℕ → ℕ
+text_at j = 2 + (j + j)
+
+first_of_pair : (n : ℕ) (xs : List ℕ) (j : ℕ) (d : List ℕ) → n ≡ length xs / 2 → j < n → get_or (get_or (first_chunks 2 n xs) j d) 0 0 ≡ get_or xs (j + j) 0
+first_of_pair n [] j d e h = absurd (omega arith)
+first_of_pair n (x ∷ []) j d e h = absurd (omega arith)
+first_of_pair zero (x ∷ y ∷ xs) j d e h = absurd (omega arith)
+first_of_pair (suc n) (x ∷ y ∷ xs) zero d e h = refl
+first_of_pair (suc n) (x ∷ y ∷ xs) (suc j) d e h =
+    let z : suc j + suc j ≡ suc (suc (j + j)) = omega arith in
+    first_of_pair n xs j d (omega arith) (omega arith) ∙ sym (ap (λ (i : ℕ). get_or (x ∷ y ∷ xs) i 0) z)
+
+module _ (r b₀ : List ℕ) (at start bt : ℕ) (h : bt ≤ at) (b : List ℕ) (p j q : ℕ) (g : Pairing r b₀ at start bt b p (text_at j) q) (s : List (List ℕ)) (xs : List ℕ) (ex : xs ≡ part r 2 (length r)) (n : length s ≡ length xs / 2) where
+  texts_length : length xs ≡ length r - 2
+  texts_length = ap length ex ∙ length_part r 2 (length r) (omega arith)
+
+  pub paired_end : length s ≤ j → Holds at b p (push_all (take at b₀) (pairs_of (drop 2 r) (part b₀ start bt)))
+  paired_end l = pair_texts r b₀ at start bt h b p (text_at j) q g (omega (arith, texts_length, n))
+
+  pub paired_on : j < length s → s ≡ first_chunks 2 (length xs / 2) xs → q + ROW ≤ bt → (v : ℕ) → v ≡ get_or b (q + SOURCE) 0
+      → (d : List ℕ) (b₁ : List ℕ) (p₁ : ℕ) (b₂ : List ℕ) (p₂ : ℕ) → Appended b p (get_or (get_or s j d) 0 0 ∷ []) b₁ p₁ → Appended b₁ p₁ (v ∷ []) b₂ p₂
+      → Pairing r b₀ at start bt b₂ p₂ (text_at (j + 1)) (q + ROW)
+  paired_on l es lq v ev d b₁ p₁ b₂ p₂ w₁ w₂ =
+      let lr : text_at j + 2 ≤ length r = omega (arith, texts_length, n, l) in
+      let z : text_at j + 2 ≡ text_at (j + 1) = omega arith in
+      let t : get_or (get_or s j d) 0 0 ≡ get_or r (text_at j) 0 =
+      ap (λ (x : List (List ℕ)). get_or (get_or x j d) 0 0) es ∙ first_of_pair (length xs / 2) xs j d refl (omega (arith, n, l))
+      ∙ ap (λ (x : List ℕ). get_or x (j + j) 0) ex ∙ part_at r 2 (length r) (j + j) (omega (arith, lr)) in
+      subst (λ (i : ℕ). Pairing r b₀ at start bt b₂ p₂ i (q + ROW)) z
+      (pair_on r b₀ at start bt h b p (text_at j) q g lr lq v ev b₁ p₁ b₂ p₂ (subst (λ (x : ℕ). Appended b p (x ∷ []) b₁ p₁) t w₁) w₂)
 
 -- ---- made
 

@@ -2,25 +2,24 @@
 use mathlib.Core.Path.{◌≡◌, refl, sym, ap, ◌∙◌}
 use mathlib.Core.Bool.{Bool, true, false, not, cond, ◌&&◌, and-eq-true_iff}
 use mathlib.Core.List.{List, [], ◌∷◌, ◌++◌}
-use mathlib.Core.Option.{Option}
-use Prim.Native.Nat.{ℕ, zero, suc, ◌+◌, ◌-◌, ◌≤◌, ◌<◌}
+use mathlib.Core.Option.{Option, some, none}
+use Prim.Native.Nat.{ℕ, zero, suc, ◌+◌, ◌-◌, ◌/◌, ◌≤◌, ◌<◌, max}
 use native.Mathlib.Numerals.{add-one}
 use native.Mathlib.Nat.{le_refl}
 use native.Mathlib.Omega.{arith}
-use native.Mathlib.Decide.{dec_lt}
-use borrow.Author.Tests.{eq-eqb, ne_eqb, lt-ltb, le-ltb, lt-leb, le-leb, leb-true, not-true, not-false}
+use native.Mathlib.Decide.{dec_lt, ℕ_discrete}
+use borrow.Author.Tests.{eq-eqb, ne_eqb, lt-ltb, le-ltb, lt-leb, le-leb, leb-true, ltb-true, ltb-false, not-true, not-false}
 use lib.Dec.{eqb, leb, ltb}
 use lib.ListN.{length, get_or, take, drop, drop_of_length-le, length-drop, get_or-append}
 use lib.Seq.{drop-cons, drop-drop, take_all, get_or-append-add}
-use Rattle.cedar.specs.Rows.{Entries}
-use Rattle.cedar.specs.Numbered.{mem_n, all_n, any_n, entry_of}
+use Rattle.cedar.specs.Numbered.{mem_n, all_n, any_n, pick_n, entry_of}
 use Rattle.sheet.specs.Bytes.{same}
 use Rattle.sheet.specs.State.{entries_of}
 use Rattle.sheet.specs.Sheet.{ascend}
 use Rattle.sheet.proofs.demand3.TwoSheets.{same_is}
 use Rattle.value.specs.Places.{lower_than}
-use Rattle.value.specs.Shapes.{value_found}
-use Rattle.value.specs.declared.Entry.TheVariants.{At, Nothing}
+use Rattle.std.specs.List.{list_any, IsAllAdjacentAnswer}
+use Rattle.std.specs.Simd.{first_chunks}
 
 -- a loop over n places has come to place i, and what is left gives what the whole gives
 pub record Going {A : Type 0} (whole rest : A) (i n : ℕ) : Type 0 where
@@ -35,20 +34,18 @@ spent s i h = drop_of_length-le s h
 
 -- ---- members
 
-module _ (l : List ℕ) (v i : ℕ) (g : Going (mem_n v l) (mem_n v (drop i l)) i (length l)) where
-  pub mem_end : length l ≤ i → false ≡ mem_n v l
-  mem_end h = sym (g.left ∙ ap (mem_n v) (spent l i h))
+turned : (x y : ℕ) → eqb x y ≡ eqb y x
+turned x y = go (ℕ_discrete x y)
+  where
+    go : Dec (x ≡ y) → eqb x y ≡ eqb y x
+    go (yes e) = eq-eqb x y e ∙ sym (eq-eqb y x (sym e))
+    go (no n) = ne_eqb x y n ∙ sym (ne_eqb y x (λ e. n (sym e)))
 
-  pub mem_hit : i < length l → v ≡ get_or l i 0 → true ≡ mem_n v l
-  mem_hit h e = sym (g.left ∙ ap (mem_n v) (uncons l 0 i h) ∙ rw (eq-eqb v (get_or l i 0) e))
-
-  pub mem_on : i < length l → (v ≡ get_or l i 0 → ⊥) → Going (mem_n v l) (mem_n v (drop (i + 1) l)) (i + 1) (length l)
-  mem_on h e = record { near = omega arith; left = g.left ∙ ap (mem_n v) (uncons l 0 i h) ∙ rw (ne_eqb v (get_or l i 0) e) }
+pub mem_listed : (v : ℕ) (l : List ℕ) → list_any (λ y. eqb y v) l ≡ mem_n v l
+mem_listed v [] = refl
+mem_listed v (x ∷ l) = rw (turned x v, mem_listed v l)
 
 module _ (k l : List ℕ) (i : ℕ) (g : Going (all_n k l) (all_n (drop i k) l) i (length k)) where
-  pub all_end : length k ≤ i → true ≡ all_n k l
-  all_end h = sym (g.left ∙ ap (λ (x : List ℕ). all_n x l) (spent k i h))
-
   pub all_off : (b : Bool) → i < length k → b ≡ mem_n (get_or k i 0) l → not b ≡ true → false ≡ all_n k l
   all_off b h e f =
       let z : mem_n (get_or k i 0) l ≡ false = sym e ∙ not-true b f in
@@ -60,9 +57,6 @@ module _ (k l : List ℕ) (i : ℕ) (g : Going (all_n k l) (all_n (drop i k) l) 
       record { near = omega arith; left = g.left ∙ ap (λ (x : List ℕ). all_n x l) (uncons k 0 i h) ∙ rw z }
 
 module _ (k l : List ℕ) (i : ℕ) (g : Going (any_n k l) (any_n (drop i k) l) i (length k)) where
-  pub any_end : length k ≤ i → false ≡ any_n k l
-  any_end h = sym (g.left ∙ ap (λ (x : List ℕ). any_n x l) (spent k i h))
-
   pub any_hit : (b : Bool) → i < length k → b ≡ mem_n (get_or k i 0) l → b ≡ true → true ≡ any_n k l
   any_hit b h e f =
       let z : mem_n (get_or k i 0) l ≡ true = sym e ∙ f in
@@ -75,15 +69,34 @@ module _ (k l : List ℕ) (i : ℕ) (g : Going (any_n k l) (any_n (drop i k) l) 
 
 -- ---- members that ascend
 
-module _ (l : List ℕ) (lo i : ℕ) (g : Going (ascend 0 l) (ascend lo (drop i l)) i (length l)) where
-  pub ascend_end : length l ≤ i → true ≡ ascend 0 l
-  ascend_end h = sym (g.left ∙ ap (ascend lo) (spent l i h))
+-- each is below the next
+abbrev Up : List ℕ → Type 0
+Up l = (k : ℕ) → k + 1 < length l → true ≡ ltb (get_or l k 0) (get_or l (k + 1) 0)
 
-  pub ascend_off : i < length l → get_or l i 0 < lo → false ≡ ascend 0 l
-  ascend_off h b = sym (g.left ∙ ap (ascend lo) (uncons l 0 i h) ∙ rw (lt-leb lo (get_or l i 0) b))
+up_next : (x y : ℕ) (l : List ℕ) → Up (x ∷ y ∷ l) → Up (y ∷ l)
+up_next x y l f k h = let z : suc k + 1 ≡ suc (k + 1) = omega arith in rw z at (f (suc k) (omega arith))
 
-  pub ascend_on : i < length l → lo ≤ get_or l i 0 → Going (ascend 0 l) (ascend (get_or l i 0 + 1) (drop (i + 1) l)) (i + 1) (length l)
-  ascend_on h b = record { near = omega arith; left = g.left ∙ ap (ascend lo) (uncons l 0 i h) ∙ rw (le-leb lo (get_or l i 0) b, add-one (get_or l i 0)) }
+ascend_up : (m : ℕ) (l : List ℕ) → Up l → (0 < length l → m ≤ get_or l 0 0) → ascend m l ≡ true
+ascend_up m [] f h = refl
+ascend_up m (x ∷ []) f h = rw (le-leb m x (h (omega arith)))
+ascend_up m (x ∷ y ∷ l) f h =
+    rw (le-leb m x (h (omega arith))) (ascend_up (suc x) (y ∷ l) (up_next x y l f) (λ _. omega (arith, ltb-true x y (sym (f 0 (omega arith))))))
+
+none_true : (b : Bool) → (b && false) ≡ false
+none_true true = refl
+none_true false = refl
+
+ascend_not : (m : ℕ) (l : List ℕ) (k : ℕ) → k + 1 < length l → false ≡ ltb (get_or l k 0) (get_or l (k + 1) 0) → ascend m l ≡ false
+ascend_not m [] k h e = absurd (omega arith)
+ascend_not m (x ∷ []) k h e = absurd (omega arith)
+ascend_not m (x ∷ y ∷ l) zero h e = rw (lt-leb (suc x) y (omega (arith, ltb-false x y (sym e)))) (none_true (leb m x))
+ascend_not m (x ∷ y ∷ l) (suc k) h e =
+    let z : suc k + 1 ≡ suc (k + 1) = omega arith in
+    rw (ascend_not (suc x) (y ∷ l) k (omega arith) (rw z at e)) (none_true (leb m x))
+
+pub ascend_answer : (l : List ℕ) (b : Bool) → IsAllAdjacentAnswer (λ x y c. c ≡ ltb x y) l b → b ≡ ascend 0 l
+ascend_answer l true h = sym (ascend_up 0 l (λ k p. h k 0 p) (λ _. omega arith))
+ascend_answer l false h = sym (ascend_not 0 l h.0 h.1 (h.2 0))
 
 -- what is below the first of them is none of them
 ascend_above : (m v : ℕ) (l : List ℕ) → ascend m l ≡ true → v < m → mem_n v l ≡ false
@@ -103,20 +116,11 @@ ascend_rest (suc j) m [] e = refl
 ascend_rest (suc j) m (x ∷ l) e = ascend_rest j (suc x) l ((and-eq-true_iff (leb m x) (ascend (suc x) l)).0 e).1
 
 module _ (l : List ℕ) (v j : ℕ) where
-  pub stands_past : length l ≤ j → false ≡ mem_n v (drop j l)
-  stands_past h = sym (ap (mem_n v) (spent l j h))
-
-  pub stands_hit : j < length l → v ≡ get_or l j 0 → true ≡ mem_n v (drop j l)
-  stands_hit h e = sym (ap (mem_n v) (uncons l 0 j h) ∙ rw (eq-eqb v (get_or l j 0) e))
-
   pub stands_above : (up : Bool) → (up ≡ true → ascend 0 l ≡ true) → up ≡ true → j < length l → v < get_or l j 0 → false ≡ mem_n v (drop j l)
   stands_above up eu u h b =
       let a : ascend 0 (get_or l j 0 ∷ drop (j + 1) l) ≡ true = ap (ascend 0) (sym (uncons l 0 j h)) ∙ ascend_rest j 0 l (eu u) in
       let r = ((and-eq-true_iff (leb 0 (get_or l j 0)) (ascend (suc (get_or l j 0)) (drop (j + 1) l))).0 a).1 in
       sym (ap (mem_n v) (uncons l 0 j h) ∙ rw (ne_eqb v (get_or l j 0) (λ z. omega arith)) (ascend_above (suc (get_or l j 0)) v (drop (j + 1) l) r (omega arith)))
-
-  pub stands_rest : (b : Bool) → b ≡ mem_n v (take (length l - j) (drop j l)) → b ≡ mem_n v (drop j l)
-  stands_rest b e = e ∙ ap (mem_n v) (take_all (length l - j) (drop j l) (omega (arith, length-drop j l)))
 
 -- ---- the first place that is not below a number
 
@@ -132,6 +136,16 @@ module _ (l : List ℕ) (v from j : ℕ) (g : Reaching l v from j) where
   reach_end h =
       let z : j + 0 ≡ j = omega arith in
       sym (g.left ∙ ap (λ (x : List ℕ). j + lower_than v x) (spent l j h) ∙ z)
+
+  pub reach_last : length l ≤ j → (from ≤ length l → j ≤ length l) → max from (length l) ≡ from + lower_than v (drop from l)
+  unfolding lower_than
+  reach_last h k = go (dec_lt (length l) from)
+    where
+      go : Dec (length l < from) → max from (length l) ≡ from + lower_than v (drop from l)
+      go (yes b) =
+          let z : from + lower_than v (drop from l) ≡ from + 0 = ap (λ (x : List ℕ). from + lower_than v x) (spent l from (omega arith)) in
+          omega (arith, z)
+      go (no b) = let z = reach_end h in omega (arith, z, k)
 
   pub reach_stop : j < length l → v ≤ get_or l j 0 → j ≡ from + lower_than v (drop from l)
   unfolding lower_than
@@ -205,26 +219,27 @@ uncons2 s i h =
     let e : i + 1 + 1 ≡ i + 2 = omega arith in
     uncons s 0 i (omega arith) ∙ ap (λ (x : List ℕ). get_or s i 0 ∷ x) (uncons s 0 (i + 1) (omega arith) ∙ ap (λ (j : ℕ). get_or s (i + 1) 0 ∷ drop j s) e)
 
-short_entries : (l : List ℕ) → length l < 2 → entries_of l ≡ Entries.stop
-short_entries [] h = refl
-short_entries (t ∷ []) h = refl
-short_entries (t ∷ v ∷ l) h = absurd (omega arith)
+-- of the pairs that they are
+abbrev pub entry_among : ℕ → List (List ℕ) → Option ℕ
+entry_among t [] = none
+entry_among t (p ∷ l) = pick_n (eqb t (get_or p 0 0)) (get_or p 1 0) (entry_among t l)
 
-module _ (l : List ℕ) (t i : ℕ) (g : Going (entry_in t l) (entry_in t (drop i l)) i (length l)) where
-  pub entry_end : length l - i < 2 → value_found Nothing ≡ entry_in t l
-  entry_end h =
-      let n : length (drop i l) < 2 = rw (length-drop i l) h in
-      sym (g.left ∙ rw (short_entries (drop i l) n))
+pub entry_pairs : (t n : ℕ) (l : List ℕ) → n ≡ length l / 2 → entry_among t (first_chunks 2 n l) ≡ entry_in t l
+entry_pairs t n [] e = let z : n ≡ 0 = omega arith in rw z
+entry_pairs t n (x ∷ []) e = let z : n ≡ 0 = omega arith in rw z
+entry_pairs t zero (x ∷ y ∷ l) e = absurd (omega arith)
+entry_pairs t (suc n) (x ∷ y ∷ l) e = ap (pick_n (eqb t x) y) (entry_pairs t n l (omega arith))
 
-  pub entry_hit : 2 ≤ length l - i → t ≡ get_or l i 0 → value_found (At (get_or l (i + 1) 0)) ≡ entry_in t l
-  entry_hit h e = sym (g.left ∙ ap (entry_in t) (uncons2 l i (omega (arith, g.near))) ∙ rw (eq-eqb t (get_or l i 0) e))
+module _ (t : ℕ) (s : List (List ℕ)) (i : ℕ) (g : entry_among t s ≡ entry_among t (drop i s)) where
+  pub entry_end : length s ≤ i → none ≡ entry_among t s
+  entry_end h = sym (g ∙ ap (entry_among t) (spent s i h))
 
-  pub entry_on : 2 ≤ length l - i → (t ≡ get_or l i 0 → ⊥) → Going (entry_in t l) (entry_in t (drop (i + 2) l)) (i + 2) (length l)
-  entry_on h e =
-      record {
-        near = omega (arith, g.near);
-        left = g.left ∙ ap (entry_in t) (uncons2 l i (omega (arith, g.near))) ∙ rw (ne_eqb t (get_or l i 0) e);
-      }
+  module _ (d : List ℕ) (h : i < length s) where
+    pub entry_hit : t ≡ get_or (get_or s i d) 0 0 → some (get_or (get_or s i d) 1 0) ≡ entry_among t s
+    entry_hit e = sym (g ∙ ap (entry_among t) (uncons s d i h) ∙ rw (eq-eqb t (get_or (get_or s i d) 0 0) e))
+
+    pub entry_on : (t ≡ get_or (get_or s i d) 0 0 → ⊥) → entry_among t s ≡ entry_among t (drop (i + 1) s)
+    entry_on e = g ∙ ap (entry_among t) (uncons s d i h) ∙ rw (ne_eqb t (get_or (get_or s i d) 0 0) e)
 
 -- ---- two lists
 

@@ -181,14 +181,4 @@ module _ (a r : List ℕ) (v n : ℕ) (ev : v ≡ place_of r (value_lines a)) (e
       let z : room_for a (length r) ≡ true = sym eb ∙ not-false b f in
       record { words = rw (← ev, ← en, le-ltb v n h, z) ew; number = number_is }
 
--- a test that was passed
-pub room_tested : (a : List ℕ) (n : ℕ) (b : Bool) → b ≡ room_for a n → not b ≡ false → room_for a n ≡ true
-room_tested a n b e f = sym e ∙ not-false b f
-
 -- ---- bools
-
-pub bool_true : (a w : List ℕ) (b : Bool) (v : ℕ) → b ≡ true → Made a (BOOL_VALUE ∷ 1 ∷ []) w v → Made a (bool_row b) w v
-bool_true a w b v e m = rw e m
-
-pub bool_false : (a w : List ℕ) (b : Bool) (v : ℕ) → b ≡ false → Made a (BOOL_VALUE ∷ 0 ∷ []) w v → Made a (bool_row b) w v
-bool_false a w b v e m = rw e m

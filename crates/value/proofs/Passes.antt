@@ -33,12 +33,6 @@ module _ (w v : List ℕ) (x y p : ℕ) (b : Bool) (e : b ≡ alone w x p) where
   off : b ≡ false → false ≡ stands w v x y p
   off f = ap (λ (c : Bool). c && eqb (get_or v p 0) y) (sym f ∙ e)
 
-  pub at_none : not b ≡ true → false ≡ stands w v x y p
-  at_none f = off (not-true b f)
-
-  pub at_both : (q : ℕ) → q ≡ get_or v p 0 → not b ≡ false → eqb q y ≡ stands w v x y p
-  at_both q eq f = ap (λ (n : ℕ). eqb n y) eq ∙ ap (λ (c : Bool). c && eqb (get_or v p 0) y) (sym (not-false b f) ∙ e)
-
 -- ---- places passed
 
 module _ (w v : List ℕ) (x y : ℕ) (l : List ℕ) (i : ℕ) where
@@ -229,9 +223,6 @@ module _ (r a : List ℕ) (k b n : ℕ) (eb : b ≡ base k) (en : n ≡ get_or a
   skip_rows (suc c) i m g =
       let z : i + c + 1 ≡ i + suc c = omega arith in
       subst (λ (x : ℕ). Finding r (rows_of a k) n x) z (next_row i c m (skip_rows c i (omega arith) g))
-
-  pub near_starts : (i : ℕ) → Finding r (rows_of a k) n i → i ≤ length (part a b (b + n))
-  near_starts i g = omega (arith, g.near, length_part a b (b + n) h)
 
   -- the search goes on at the next row that has the words
   module _ (i p : ℕ) (g : Finding r (rows_of a k) n i) (ep : p ≡ i + passed (part a j (length a)) (part a o (length a - j + o)) (get_or r j 0) (get_or r o 0) (drop i (part a b (b + n)))) where

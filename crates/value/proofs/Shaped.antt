@@ -94,11 +94,3 @@ shape_row_law r = go (tag r - first_value)
     go (suc (suc (suc (suc (suc (suc j)))))) = refl
 
 -- ---- items
-
-pub items_none : (r : List ℕ) → length r < 1 → r ≡ items r
-items_none [] h = refl
-items_none (x ∷ r) h = absurd (omega arith)
-
-pub items_rest : (r q : List ℕ) → q ≡ take (length r - 1) (drop 1 r) → q ≡ items r
-items_rest [] q e = e
-items_rest (x ∷ r) q e = e ∙ take_all (suc (length r) - 1) r (omega arith)

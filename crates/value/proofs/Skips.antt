@@ -6,7 +6,7 @@ use Prim.Native.Nat.{ℕ, ◌+◌, ◌≤◌, ◌<◌}
 use native.Mathlib.Omega.{arith}
 use borrow.Author.Tests.{lt-ltb, le-ltb, ltb-true, le-leb, lt-leb, leb-true, eqb-false, not-true, not-false}
 use lib.Dec.{eqb, leb, ltb}
-use lib.ListN.{get_or}
+use lib.ListN.{get_or, length, drop}
 use Rattle.forms.specs.Tags.{BOOL_VALUE}
 use Rattle.sheet.specs.Forms.{VALUE}
 use Rattle.table.specs.Layout.{TOP, heap, base, limit, limits, rows_of}
@@ -19,11 +19,8 @@ use Rattle.value.proofs.ClearLaws.{clear_more, clear_place}
 
 -- ---- the search
 
-pub past_none : (r : List ℕ) (rows : List (List ℕ)) → Past r rows 0
-past_none r rows = record { near = omega arith; left = omega arith }
-
-pub past_start : (r a : List ℕ) (k n i : ℕ) → n ≡ get_or a k 0 → Past r (rows_of a k) i → Finding r (rows_of a k) n i
-past_start r a k n i e p = record { all = e ∙ sym (count_rows a k); near = omega (arith, p.near, count_rows a k); left = p.left }
+pub past_start : (r a : List ℕ) (k n i : ℕ) → n ≡ get_or a k 0 → i ≤ length (rows_of a k) → place_of r (rows_of a k) ≡ i + place_of r (drop i (rows_of a k)) → Finding r (rows_of a k) n i
+past_start r a k n i e l p = record { all = e ∙ sym (count_rows a k); near = omega (arith, l, count_rows a k); left = p }
 
 past_bool : (a : List ℕ) (skip : ℕ) (b : Bool) → Clear a skip → Past (bool_row b) (rows_of a VALUE) skip
 past_bool a skip b c =
@@ -64,5 +61,5 @@ clear_next a n b i t en few eb h c et f =
     clear_more a i c n b s (get_or a TOP 0) en eb refl refl (get_or a s 0) h (omega arith) (leb-true heap s q.0) (ltb-true s (get_or a TOP 0) q.1) refl (eqb-false (get_or a s 0) BOOL_VALUE (not-true (eqb (get_or a s 0) BOOL_VALUE) p.1))
 
 -- where the first rows that are others are all rows, none is it
-pub past_all : (r a : List ℕ) (n i : ℕ) → n ≡ get_or a VALUE 0 → Past r (rows_of a VALUE) i → n ≤ i → n ≡ place_of r (rows_of a VALUE)
-past_all r a n i e p h = omega (arith, p.left, place_most r (rows_of a VALUE), count_rows a VALUE)
+pub past_all : (r a : List ℕ) (k n i : ℕ) → n ≡ get_or a k 0 → place_of r (rows_of a k) ≡ i + place_of r (drop i (rows_of a k)) → n ≤ i → n ≡ place_of r (rows_of a k)
+past_all r a k n i e p h = omega (arith, p, place_most r (rows_of a k), count_rows a k)

@@ -3,20 +3,20 @@ use mathlib.Core.Path.{◌≡◌, refl, sym, ap, ◌∙◌}
 use mathlib.Core.Bool.{Bool, true, false, cond}
 use mathlib.Core.List.{List, [], ◌∷◌}
 use mathlib.Core.Option.{Option, none, some}
-use Prim.Native.Nat.{ℕ, suc, ◌+◌, ◌-◌, ◌≤◌, ◌<◌, compare, Ordering}
+use Prim.Native.Nat.{ℕ, zero, suc, ◌+◌, ◌/◌, ◌≤◌, ◌<◌, min, compare, Ordering}
 use native.Mathlib.Numerals.{add-one}
 use native.Mathlib.Omega.{arith}
 use native.Mathlib.Decide.{dec_lt}
 use borrow.Author.Tests.{lt-ltb, le-ltb}
 use lib.Dec.{ltb}
-use lib.ListN.{length, get_or, drop, length-drop}
+use lib.ListN.{length, get_or, drop}
 use Rattle.cedar.specs.Making.{place_n, insert_n, sort_n}
 use Rattle.cedar.proofs.OrderLaws.{compare_eq, compare_lt, compare_gt}
-use Rattle.value.specs.declared.Entry.{Entry}
-use Rattle.value.specs.declared.Entry.TheVariants.{At, Nothing}
+use Rattle.std.specs.Prelude.{Option as Maybe, Some, None}
+use Rattle.std.specs.Simd.{first_chunks}
 use Rattle.value.specs.Shapes.{value_found}
 use Rattle.value.specs.Made.{ROW, SOURCE, lower_of, least_of, values_in}
-use Rattle.value.proofs.Lists.{uncons2}
+use Rattle.value.proofs.Lists.{uncons, spent, uncons2}
 
 -- ---- one number more
 
@@ -39,18 +39,19 @@ module _ (lo : ℕ) (e : Option ℕ) (x : ℕ) (h : lo ≤ x) where
   lower_more y z l = rw (z, le-ltb x lo h, le-ltb x y l)
 
 -- the same by the code's word for the best so far
-module _ (lo : ℕ) (e : Entry) (x : ℕ) where
+module _ (lo : ℕ) (e : Maybe ℕ) (x : ℕ) where
   pub best_low : x < lo → value_found e ≡ lower_of lo (value_found e) x
   best_low h = lower_low lo (value_found e) x h
 
-  pub best_first : lo ≤ x → e ≡ Nothing → value_found (At x) ≡ lower_of lo (value_found e) x
+  pub best_first : lo ≤ x → e ≡ None → value_found (Some x) ≡ lower_of lo (value_found e) x
   best_first h z = lower_first lo (value_found e) x h (ap value_found z)
 
-  pub best_less : (y : ℕ) → lo ≤ x → e ≡ At y → x < y → value_found (At x) ≡ lower_of lo (value_found e) x
-  best_less y h z l = lower_less lo (value_found e) x h y (ap value_found z) l
-
-  pub best_more : (y : ℕ) → lo ≤ x → e ≡ At y → y ≤ x → value_found (At y) ≡ lower_of lo (value_found e) x
-  best_more y h z l = lower_more lo (value_found e) x h y (ap value_found z) l
+  pub best_less : (y m : ℕ) → lo ≤ x → e ≡ Some y → m ≡ min y x → value_found (Some m) ≡ lower_of lo (value_found e) x
+  best_less y m h z q = go (dec_lt x y)
+    where
+      go : Dec (x < y) → value_found (Some m) ≡ lower_of lo (value_found e) x
+      go (yes l) = let w : m ≡ x = omega arith in rw w (lower_less lo (value_found e) x h y (ap value_found z) l)
+      go (no l) = let w : m ≡ y = omega arith in rw w (lower_more lo (value_found e) x h y (ap value_found z) (omega arith))
 
 -- two numbers in either order
 swap : (lo : ℕ) (e : Option ℕ) (x y : ℕ) → lower_of lo (lower_of lo e x) y ≡ lower_of lo (lower_of lo e y) x
@@ -219,24 +220,30 @@ short (a ∷ b ∷ []) h = refl
 short (a ∷ b ∷ c ∷ []) h = refl
 short (a ∷ b ∷ c ∷ d ∷ l) h = absurd (omega arith)
 
-pub record Lowering (rows : List ℕ) (lo : ℕ) (e : Entry) (i : ℕ) : Type 0 where
-  pub near : i ≤ length rows
-  pub left : least_of lo none (values_in rows) ≡ least_of lo (value_found e) (values_in (drop i rows))
+abbrev pub sources : List (List ℕ) → List ℕ
+sources [] = []
+sources (q ∷ s) = get_or q SOURCE 0 ∷ sources s
 
-pub lowering_start : (rows : List ℕ) (lo : ℕ) → Lowering rows lo Nothing 0
-lowering_start rows lo = record { near = omega arith; left = refl }
+pub values_listed : (n : ℕ) (l : List ℕ) → n ≡ length l / ROW → sources (first_chunks ROW n l) ≡ values_in l
+unfolding values_in
+values_listed n [] e = let z : n ≡ 0 = omega arith in rw z
+values_listed n (t ∷ []) e = let z : n ≡ 0 = omega arith in rw z
+values_listed n (t ∷ v ∷ []) e = let z : n ≡ 0 = omega arith in rw z
+values_listed n (t ∷ v ∷ m ∷ []) e = let z : n ≡ 0 = omega arith in rw z
+values_listed zero (t ∷ v ∷ m ∷ y ∷ l) e = absurd (omega arith)
+values_listed (suc n) (t ∷ v ∷ m ∷ y ∷ l) e = ap (λ (k : List ℕ). v ∷ k) (values_listed n l (omega arith))
 
-module _ (rows : List ℕ) (lo : ℕ) (e : Entry) (i : ℕ) (g : Lowering rows lo e i) where
-  pub lowering_on : (f : Entry) → ROW ≤ length rows - i → value_found f ≡ lower_of lo (value_found e) (get_or rows (i + SOURCE) 0) → Lowering rows lo f (i + ROW)
-  unfolding values_in least_of
-  lowering_on f h q =
-      record {
-        near = omega (arith, g.near);
-        left = g.left ∙ ap (λ (l : List ℕ). least_of lo (value_found e) (values_in l)) (uncons4 rows i (omega (arith, g.near))) ∙ ap (λ (d : Option ℕ). least_of lo d (values_in (drop (i + ROW) rows))) (sym q);
-      }
+-- what is left of the rows from number i on, and the best of those before
+pub record Lowering (s : List (List ℕ)) (lo : ℕ) (e : Maybe ℕ) (i : ℕ) : Type 0 where
+  pub left : least_of lo none (sources s) ≡ least_of lo (value_found e) (sources (drop i s))
 
-  pub lowering_end : length rows - i < ROW → value_found e ≡ least_of lo none (values_in rows)
+module _ (s : List (List ℕ)) (lo : ℕ) (e : Maybe ℕ) (i : ℕ) (g : Lowering s lo e i) where
+  pub lowering_on : (d : List ℕ) (f : Maybe ℕ) → i < length s → value_found f ≡ lower_of lo (value_found e) (get_or (get_or s i d) SOURCE 0) → Lowering s lo f (i + 1)
   unfolding least_of
-  lowering_end h =
-      let n : length (drop i rows) < ROW = rw (length-drop i rows) h in
-      sym (g.left ∙ ap (least_of lo (value_found e)) (short (drop i rows) n))
+  lowering_on d f h q =
+      record { left = g.left ∙ ap (λ (l : List (List ℕ)). least_of lo (value_found e) (sources l)) (uncons s d i h) ∙ ap (λ (o : Option ℕ). least_of lo o (sources (drop (i + 1) s))) (sym q) }
+
+  pub lowering_end : length s ≤ i → (l : List ℕ) → s ≡ first_chunks ROW (length l / ROW) l → value_found e ≡ least_of lo none (values_in l)
+  unfolding least_of
+  lowering_end h l q =
+      sym (sym (ap (least_of lo none) (ap sources q ∙ values_listed (length l / ROW) l refl)) ∙ g.left ∙ ap (λ (k : List (List ℕ)). least_of lo (value_found e) (sources k)) (spent s i h))

@@ -4,9 +4,8 @@
 
 pub mod making;
 
-ghost use Rattle.std.specs.Prelude.{◌≡◌, [], true, cond, ◌+◌, ◌*◌, ltb, get_or, length, drop};
+ghost use Rattle.std.specs.Prelude.{◌≡◌, [], true, cond, ◌+◌, ltb, get_or, length, drop};
 ghost use Rattle.cedar.specs.Numbered.{mem_n, all_n, any_n, entry_of};
-ghost use Rattle.sheet.specs.Forms.{items};
 ghost use Rattle.sheet.specs.State.{entries_of};
 ghost use Rattle.sheet.specs.Sheet.{ascend};
 ghost use Rattle.value.specs.Lines.{value_lines};
@@ -25,13 +24,6 @@ pub enum Shape {
     Entity(u32, u32),
     Set,
     Record,
-}
-
-// A number found, or none.
-#[derive(Clone, Copy)]
-pub enum Entry {
-    At(u32),
-    Nothing,
 }
 
 // How many values there are.
@@ -57,13 +49,6 @@ pub fn row_of(rows: &[u32], value: usize) -> &[u32]
     &rows[0..0]
 }
 
-// A long from its two words.
-fn joined(high: u32, low: u32) -> u64
-    ensures { result ≡ high * 4294967296 + low }
-{
-    high as u64 * 4294967296 + low as u64
-}
-
 // What a row says.
 pub fn shape_of(line: &[u32]) -> Shape
     ensures { result ≡ shape_of line.now }
@@ -79,70 +64,35 @@ pub fn shape_of(line: &[u32]) -> Shape
         SET_VALUE => Shape::Set,
         ENTITY_VALUE => Shape::Entity(x, y),
         TEXT_VALUE => Shape::Text(x),
-        LONG_VALUE => Shape::Long(joined(x, y)),
+        LONG_VALUE => Shape::Long(long::joined(x, y)),
         _ => Shape::Bool(x == 1),
     }
-}
-
-// The items of a row: a set's members, a record's texts and numbers in turn.
-pub fn members(line: &[u32]) -> &[u32]
-    ensures { result.now ≡ items line.now }
-{
-    if line.len() < 1 {
-        return line;
-    }
-    &line[1..]
 }
 
 // Whether `value` is a member.
 pub fn contains(words: &[u32], value: u32) -> bool
     ensures { result ≡ mem_n value words.now }
 {
-    let mut i = 0;
-    loop {
-        if i >= words.len() {
-            break false;
-        }
-        if value == words[i] {
-            break true;
-        }
-        i += 1;
-    }
+    words.contains(&value)
 }
 
 // Whether the members ascend without repeats.
 fn ascends(words: &[u32]) -> bool
     ensures { result ≡ ascend 0 words.now }
 {
-    let mut lo: usize = 0;
-    let mut i = 0;
-    loop {
-        if i >= words.len() {
-            break true;
-        }
-        let x = words[i] as usize;
-        if x < lo {
-            break false;
-        }
-        lo = x + 1;
-        i += 1;
-    }
+    words.is_sorted_by(|x, y| x < y)
 }
 
 // The first place from `from` on whose member is not below `value`.
 fn reach(words: &[u32], value: u32, from: usize) -> usize
     ensures { result ≡ from + lower_than value (drop from words.now) }
 {
-    let mut j = from;
-    loop {
-        if j >= words.len() {
-            break j;
-        }
+    for j in from..words.len() {
         if words[j] >= value {
-            break j;
+            return j;
         }
-        j += 1;
     }
+    from.max(words.len())
 }
 
 // Where to look for `value`, after `last` was looked for and reached place `j`.
@@ -181,19 +131,14 @@ pub fn covers(words: &[u32], among: &[u32]) -> bool
 {
     let mut u: u32 = 0;
     let mut j = 0;
-    let mut i = 0;
-    loop {
-        if i >= words.len() {
-            break true;
-        }
-        let v = words[i];
+    for &v in words {
         j = reach(among, v, resume(u, v, j));
         if !stands(among, false, v, j) {
-            break false;
+            return false;
         }
         u = v;
-        i += 1;
     }
+    true
 }
 
 // Whether some member of `words` is one of `among`.
@@ -203,33 +148,25 @@ pub fn meets(words: &[u32], among: &[u32]) -> bool
     let up = ascends(among);
     let mut u: u32 = 0;
     let mut j = 0;
-    let mut i = 0;
-    loop {
-        if i >= words.len() {
-            break false;
-        }
-        let v = words[i];
+    for &v in words {
         j = reach(among, v, resume(u, v, j));
         if stands(among, up, v, j) {
-            break true;
+            return true;
         }
         u = v;
-        i += 1;
     }
+    false
 }
 
 // The value that a record's items have for a text.
-pub fn entry_of(words: &[u32], text: u32) -> Entry
+pub fn entry_of(words: &[u32], text: u32) -> Option<u32>
     ensures { value_found result ≡ entry_of text (entries_of words.now) }
 {
-    let mut i = 0;
-    loop {
-        if words.len() - i < 2 {
-            break Entry::Nothing;
+    let (pairs, _) = words.as_chunks::<2>();
+    for pair in pairs {
+        if text == pair[0] {
+            return Some(pair[1]);
         }
-        if text == words[i] {
-            break Entry::At(words[i + 1]);
-        }
-        i += 2;
     }
+    None
 }

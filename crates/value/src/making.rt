@@ -14,7 +14,6 @@ ghost use Rattle.value.specs.Places.{passed, Passing};
 ghost use Rattle.value.specs.Shapes.{value_found};
 ghost use Rattle.value.specs.Made.{bool_row, long_row, entity_row, room_for, narrow, with_made, Made, MadeBeside, values_in, Shifted, Inserted, lower_of, least_of, set_row, pairs_of, record_row, push_all};
 
-use crate::Entry;
 use forms::{BOOL_VALUE, ENTITY_VALUE, LONG_VALUE, NODE, RECORD_VALUE, SET_VALUE, VALUE};
 use table::{HEAP, MADE, TOP, add_row, base_of, count, row};
 use words::{cut, push, read, store};
@@ -27,42 +26,6 @@ const SOURCE: usize = 1;
 // How many places a search passes in one turn.
 const FOUR: usize = 4;
 
-// Whether two rows have the same words.
-pub fn same(left: &[u32], right: &[u32]) -> bool
-    ensures { result ≡ same left.now right.now }
-{
-    if left.len() != right.len() {
-        return false;
-    }
-    let mut i = 0;
-    loop {
-        if i >= left.len() {
-            break true;
-        }
-        if left[i] != right[i] {
-            break false;
-        }
-        i += 1;
-    }
-}
-
-// The number of the first row of a key with these words, or of all its rows where none has them, row by row.
-fn find_row(rows: &[u32], key: usize, line: &[u32]) -> usize
-    ensures { result ≡ place_of line.now (rows_of rows.now key) }
-{
-    let n = count(rows, key);
-    let mut i = 0;
-    loop {
-        if i >= n {
-            break n as usize;
-        }
-        if same(row(rows, key, i), line) {
-            break i as usize;
-        }
-        i += 1;
-    }
-}
-
 // Whether `value` stands at `at`, before `end`.
 fn is_there(log: &[u32], at: usize, end: usize, value: u32) -> bool
     ensures { result ≡ (ltb at end && eqb (get_or log.now at 0) value) }
@@ -73,119 +36,100 @@ fn is_there(log: &[u32], at: usize, end: usize, value: u32) -> bool
     read(log, at) == value
 }
 
-// Whether `value` stands at the place.
-fn is_word(words: &[u32], place: u32, value: u32) -> bool
-    ensures { result ≡ (ltb place (length words.now) && eqb (get_or words.now place 0) value) }
-{
-    is_there(words, place as usize, words.len(), value)
-}
-
-// Whether `value` stands at the place in the words, and `former` in those before.
-fn is_at(words: &[u32], before: &[u32], place: u32, value: u32, former: u32) -> bool
-    ensures { result ≡ ((ltb place (length words.now) && eqb (get_or words.now place 0) value) && eqb (get_or before.now place 0) former) }
-{
-    if !is_word(words, place, value) {
-        return false;
-    }
-    read(before, place as usize) == former
-}
-
-// Whether they stand at none of the four places from number `i` on.
-fn is_at_none(
-    words: &[u32],
-    before: &[u32],
-    places: &[u32],
-    i: usize,
+// Places where rows begin, and two words that tell a row from most others: `value` stands in the words at its place, `former` in those before.
+#[derive(Clone, Copy)]
+struct TwoWords<'a> {
+    words: &'a [u32],
+    before: &'a [u32],
+    places: &'a [u32],
     value: u32,
     former: u32,
-) -> bool
-    requires { i + 4 ≤ length places.now }
-    ensures { result ≡ leb 4 (passed words.now before.now value former (drop i places.now)) }
-{
-    if is_at(words, before, places[i], value, former) {
-        return false;
-    }
-    if is_at(words, before, places[i + 1], value, former) {
-        return false;
-    }
-    if is_at(words, before, places[i + 2], value, former) {
-        return false;
-    }
-    !is_at(words, before, places[i + 3], value, former)
 }
 
-// The same, but most rows have another word there: both words are compared only where `value` stands at one of the four.
-fn passes_four(
-    words: &[u32],
-    before: &[u32],
-    places: &[u32],
-    i: usize,
-    value: u32,
-    former: u32,
-) -> bool
-    requires { i + 4 ≤ length places.now }
-    ensures { result ≡ leb 4 (passed words.now before.now value former (drop i places.now)) }
-{
-    if is_word(words, places[i], value) {
-        return is_at_none(words, before, places, i, value, former);
+impl<'a> TwoWords<'a> {
+    // Whether `value` stands at the place.
+    fn is_word(&self, place: u32) -> bool
+        ensures { result ≡ (ltb place (length self.now.words.now) && eqb (get_or self.now.words.now place 0) self.now.value) }
+    {
+        is_there(self.words, place as usize, self.words.len(), self.value)
     }
-    if is_word(words, places[i + 1], value) {
-        return is_at_none(words, before, places, i, value, former);
-    }
-    if is_word(words, places[i + 2], value) {
-        return is_at_none(words, before, places, i, value, former);
-    }
-    if is_word(words, places[i + 3], value) {
-        return is_at_none(words, before, places, i, value, former);
-    }
-    true
-}
 
-// A number up to which they stand at none of the places from number `from` on: these are passed four at a time.
-fn passed_by_fours(
-    words: &[u32],
-    before: &[u32],
-    places: &[u32],
-    from: usize,
-    value: u32,
-    former: u32,
-) -> usize
-    requires { from ≤ length places.now }
-    ensures { Passing words.now before.now value former places.now from result }
-{
-    let mut i = from;
-    loop {
-        if places.len() - i < FOUR {
-            break i;
+    // Whether both words stand at the place.
+    fn is_at(&self, place: u32) -> bool
+        ensures { result ≡ ((ltb place (length self.now.words.now) && eqb (get_or self.now.words.now place 0) self.now.value) && eqb (get_or self.now.before.now place 0) self.now.former) }
+    {
+        if !self.is_word(place) {
+            return false;
         }
-        if !passes_four(words, before, places, i, value, former) {
-            break i;
-        }
-        i += FOUR;
+        read(self.before, place as usize) == self.former
     }
-}
 
-// The number of the first place from number `from` on where they stand, or of all places where they stand at none.
-fn next_place(
-    words: &[u32],
-    before: &[u32],
-    places: &[u32],
-    from: usize,
-    value: u32,
-    former: u32,
-) -> usize
-    requires { from ≤ length places.now }
-    ensures { result ≡ from + passed words.now before.now value former (drop from places.now) }
-{
-    let mut i = passed_by_fours(words, before, places, from, value, former);
-    loop {
-        if i >= places.len() {
-            break i;
+    // Whether they stand at none of the four places from number `i` on.
+    fn is_at_none(&self, i: usize) -> bool
+        requires { i + 4 ≤ length self.now.places.now }
+        ensures { result ≡ leb 4 (passed self.now.words.now self.now.before.now self.now.value self.now.former (drop i self.now.places.now)) }
+    {
+        let places = self.places;
+        if self.is_at(places[i]) {
+            return false;
         }
-        if is_at(words, before, places[i], value, former) {
-            break i;
+        if self.is_at(places[i + 1]) {
+            return false;
         }
-        i += 1;
+        if self.is_at(places[i + 2]) {
+            return false;
+        }
+        !self.is_at(places[i + 3])
+    }
+
+    // The same, but most rows have another word there: both words are compared only where `value` stands at one of the four.
+    fn passes_four(&self, i: usize) -> bool
+        requires { i + 4 ≤ length self.now.places.now }
+        ensures { result ≡ leb 4 (passed self.now.words.now self.now.before.now self.now.value self.now.former (drop i self.now.places.now)) }
+    {
+        let places = self.places;
+        if self.is_word(places[i]) {
+            return self.is_at_none(i);
+        }
+        if self.is_word(places[i + 1]) {
+            return self.is_at_none(i);
+        }
+        if self.is_word(places[i + 2]) {
+            return self.is_at_none(i);
+        }
+        if self.is_word(places[i + 3]) {
+            return self.is_at_none(i);
+        }
+        true
+    }
+
+    // A number up to which they stand at none of the places from number `from` on: these are passed four at a time.
+    fn passed_by_fours(&self, from: usize) -> usize
+        requires { from ≤ length self.now.places.now }
+        ensures { Passing self.now.words.now self.now.before.now self.now.value self.now.former self.now.places.now from result }
+    {
+        let mut i = from;
+        while self.places.len() - i >= FOUR {
+            if !self.passes_four(i) {
+                return i;
+            }
+            i += FOUR;
+        }
+        i
+    }
+
+    // The number of the first place from number `from` on where they stand, or of all places where they stand at none.
+    fn next_place(&self, from: usize) -> usize
+        requires { from ≤ length self.now.places.now }
+        ensures { result ≡ from + passed self.now.words.now self.now.before.now self.now.value self.now.former (drop from self.now.places.now) }
+    {
+        let places = self.places;
+        for i in self.passed_by_fours(from)..places.len() {
+            if self.is_at(places[i]) {
+                return i;
+            }
+        }
+        places.len()
     }
 }
 
@@ -217,83 +161,118 @@ fn is_row(rows: &[u32], at: usize, line: &[u32]) -> bool
 {
     let start = read(rows, at) as usize;
     let end = read(rows, at + 1) as usize;
-    same(cut(rows, start, end), line)
+    cut(rows, start, end) == line
 }
 
-// The same by two words: only those of the `many` rows from number `from` on are compared that have them in their places. Word `first` says where the first row begins.
-fn find_telling(
-    rows: &[u32],
+// A row looked for among the rows of a key, of which those before number `from` are others.
+#[derive(Clone, Copy)]
+struct Search<'a> {
+    rows: &'a [u32],
     key: usize,
-    first: usize,
-    many: usize,
     from: usize,
-    line: &[u32],
-) -> usize
-    requires { (first ≡ base key) × (many ≡ get_or rows.now key 0) × (first + many ≤ length rows.now) × (1 ≤ length line.now) × (length line.now ≤ length rows.now) × Past line.now (rows_of rows.now key) from }
-    ensures { result ≡ place_of line.now (rows_of rows.now key) }
-{
-    let end = first + many;
-    let starts = &rows[first..end];
-    let j = telling(line);
-    let k = one_before(j);
-    let to = rows.len() - j + k;
-    let words = &rows[j..rows.len()];
-    let before = &rows[k..to];
-    let mut i = from;
-    loop {
-        i = next_place(words, before, starts, i, line[j], line[k]);
-        if i >= many {
-            break many;
+    line: &'a [u32],
+    ghost near: { from ≤ length (rows_of rows.now key) },
+    ghost past: { place_of line.now (rows_of rows.now key) ≡ from + place_of line.now (drop from (rows_of rows.now key)) },
+}
+
+impl<'a> Search<'a> {
+    // The number of the first row with these words, or of all rows where none has them, row by row.
+    fn by_rows(&self) -> usize
+        ensures { result ≡ place_of self.now.line.now (rows_of self.now.rows.now self.now.key) }
+    {
+        let n = count(self.rows, self.key);
+        for i in 0..n {
+            if row(self.rows, self.key, i) == self.line {
+                return i as usize;
+            }
         }
-        if is_row(rows, first + i, line) {
-            break i;
+        n as usize
+    }
+
+    // The same by two words: only those of the `many` rows are compared that have them in their places. Word `first` says where the first row begins.
+    fn by_words(&self, first: usize, many: usize) -> usize
+        requires { (first ≡ base self.now.key) × (many ≡ get_or self.now.rows.now self.now.key 0) × (first + many ≤ length self.now.rows.now) × (1 ≤ length self.now.line.now) × (length self.now.line.now ≤ length self.now.rows.now) }
+        ensures { result ≡ place_of self.now.line.now (rows_of self.now.rows.now self.now.key) }
+    {
+        let rows = self.rows;
+        let line = self.line;
+        let end = first + many;
+        let starts = &rows[first..end];
+        let j = telling(line);
+        let k = one_before(j);
+        let to = rows.len() - j + k;
+        let two = TwoWords {
+            words: &rows[j..rows.len()],
+            before: &rows[k..to],
+            places: starts,
+            value: line[j],
+            former: line[k],
+        };
+        let mut i = self.from;
+        loop {
+            i = two.next_place(i);
+            if i >= many {
+                return many;
+            }
+            if is_row(rows, first + i, line) {
+                return i;
+            }
+            i += 1;
         }
-        i += 1;
+    }
+
+    // The number of the first row with these words, or of all rows where none has them.
+    fn find(&self) -> usize
+        ensures { result ≡ place_of self.now.line.now (rows_of self.now.rows.now self.now.key) }
+    {
+        let n = count(self.rows, self.key) as usize;
+        let b = base_of(self.key);
+        if b + n > self.rows.len() {
+            return self.by_rows();
+        }
+        if self.line.len() < 1 {
+            return self.by_rows();
+        }
+        if self.line.len() > self.rows.len() {
+            return self.by_rows();
+        }
+        self.by_words(b, n)
+    }
+
+    // The same, where all rows of the key may be others.
+    fn find_given(&self) -> usize
+        ensures { result ≡ place_of self.now.line.now (rows_of self.now.rows.now self.now.key) }
+    {
+        let n = count(self.rows, self.key) as usize;
+        if self.from >= n {
+            return n;
+        }
+        self.find()
     }
 }
 
-// The number of the first row of a key with these words, or of all its rows where none has them. The rows before number `from` are others.
-fn find_in(rows: &[u32], key: usize, from: usize, line: &[u32]) -> usize
-    requires { Past line.now (rows_of rows.now key) from }
-    ensures { result ≡ place_of line.now (rows_of rows.now key) }
-{
-    let n = count(rows, key) as usize;
-    let b = base_of(key);
-    if b + n > rows.len() {
-        return find_row(rows, key, line);
-    }
-    if line.len() < 1 {
-        return find_row(rows, key, line);
-    }
-    if line.len() > rows.len() {
-        return find_row(rows, key, line);
-    }
-    find_telling(rows, key, b, n, from, line)
-}
-
-// The number of the first of the sheet's values with these words, or of all of them where none has them. The first `skip` are others.
-fn find_given(rows: &[u32], skip: usize, line: &[u32]) -> usize
-    requires { Past line.now (rows_of rows.now VALUE) skip }
-    ensures { result ≡ place_of line.now (rows_of rows.now VALUE) }
-{
-    let n = count(rows, VALUE) as usize;
-    if skip >= n {
-        return n;
-    }
-    find_in(rows, VALUE, skip, line)
-}
-
-// The number of the first value with these words, or of all values where none has them. The sheet's first `skip` values are others.
-fn find(rows: &[u32], skip: usize, line: &[u32]) -> usize
-    requires { Past line.now (rows_of rows.now VALUE) skip }
+// The number of the first value with these words, or of all values where none has them.
+fn find(rows: &[u32], line: &[u32]) -> usize
     ensures { result ≡ place_of line.now (value_lines rows.now) }
 {
     let n = count(rows, VALUE) as usize;
-    let v = find_given(rows, skip, line);
+    let given = Search {
+        rows,
+        key: VALUE,
+        from: 0,
+        line,
+    };
+    let v = given.find();
     if v < n {
         return v;
     }
-    n + find_in(rows, MADE, 0, line)
+    let made = Search {
+        rows,
+        key: MADE,
+        from: 0,
+        line,
+    };
+    n + made.find()
 }
 
 // Whether the row whose beginning word `at` says is the bool with this second word.
@@ -316,16 +295,12 @@ fn made_bool(rows: &[u32], first: usize, many: usize, bit: u32) -> usize
     requires { (first ≡ base MADE) × (many ≡ get_or rows.now MADE 0) × (first + many ≤ length rows.now) }
     ensures { result ≡ place_of (BOOL_VALUE ∷ bit ∷ []) (rows_of rows.now MADE) }
 {
-    let mut i = 0;
-    loop {
-        if i >= many {
-            break many;
-        }
+    for i in 0..many {
         if is_bool(rows, first + i, bit) {
-            break i;
+            return i;
         }
-        i += 1;
     }
+    many
 }
 
 // The number of the first of the made values that is the bool, or of all of them where none is.
@@ -335,7 +310,13 @@ fn find_made_bool(rows: &[u32], bit: u32) -> usize
     let n = count(rows, MADE) as usize;
     let b = base_of(MADE);
     if b + n > rows.len() {
-        return find_row(rows, MADE, &[BOOL_VALUE, bit]);
+        let search = Search {
+            rows,
+            key: MADE,
+            from: 0,
+            line: &[BOOL_VALUE, bit],
+        };
+        return search.by_rows();
     }
     made_bool(rows, b, n, bit)
 }
@@ -346,7 +327,13 @@ fn find_bool(rows: &[u32], skip: usize, bit: u32) -> usize
     ensures { result ≡ place_of (BOOL_VALUE ∷ bit ∷ []) (value_lines rows.now) }
 {
     let n = count(rows, VALUE) as usize;
-    let v = find_given(rows, skip, &[BOOL_VALUE, bit]);
+    let given = Search {
+        rows,
+        key: VALUE,
+        from: skip,
+        line: &[BOOL_VALUE, bit],
+    };
+    let v = given.find_given();
     if v < n {
         return v;
     }
@@ -409,7 +396,7 @@ fn make_at(rows: &mut [u32], v: usize, line: &[u32]) -> u32
 pub fn make(rows: &mut [u32], line: &[u32]) -> u32
     ensures { Made rows.old line.now rows.new result }
 {
-    let v = find(rows, 0, line);
+    let v = find(rows, line);
     make_at(rows, v, line)
 }
 
@@ -436,16 +423,12 @@ pub fn clear_of(rows: &[u32]) -> usize
         return 0;
     }
     let b = base_of(VALUE);
-    let mut i = 0;
-    loop {
-        if i >= n {
-            break i;
-        }
+    for i in 0..n {
         if !is_clear(rows, b + i) {
-            break i;
+            return i;
         }
-        i += 1;
     }
+    n
 }
 
 // The bool, which is none of the sheet's first `skip` values.
@@ -489,36 +472,31 @@ pub fn make_entity(rows: &mut [u32], kind: u32, text: u32) -> u32
 }
 
 // The lower of the best so far and `value`, if `value` is not below `low`.
-fn lower(low: usize, best: Entry, value: u32) -> Entry
+fn lower(low: usize, best: Option<u32>, value: u32) -> Option<u32>
     ensures { value_found result ≡ lower_of low (value_found best) value }
 {
     if (value as usize) < low {
         return best;
     }
     match best {
-        Entry::Nothing => Entry::At(value),
-        Entry::At(y) => {
-            if value < y {
-                return Entry::At(value);
-            }
-            Entry::At(y)
-        }
+        None => Some(value),
+        Some(y) => Some(y.min(value)),
     }
 }
 
 // The least value of these rows that is not below `low`.
-fn least(words: &[u32], low: usize) -> Entry
+fn least(words: &[u32], low: usize) -> Option<u32>
     ensures { value_found result ≡ least_of low none (values_in words.now) }
 {
-    let mut best = Entry::Nothing;
-    let mut i = 0;
-    while words.len() - i >= ROW {
-        best = lower(low, best, words[i + SOURCE]);
-        i += ROW;
+    let (lines, _) = words.as_chunks::<ROW>();
+    let mut best = None;
+    for line in lines {
+        best = lower(low, best, line[SOURCE]);
     }
     best
 }
 
+// kept: a struct with the log, its end and the rows in it would lend the log out and hand it back at each call, as it grows while the rows are read.
 // The values of the rows from `start` to `top`, ascending and without repeats, at the end `at` of the log while there is room; the end
 // after them. The least of those left is looked for again and again.
 fn selected(log: &mut [u32], at: usize, start: usize, top: usize) -> usize
@@ -528,13 +506,11 @@ fn selected(log: &mut [u32], at: usize, start: usize, top: usize) -> usize
 {
     let mut p = at;
     let mut lo: usize = 0;
-    loop {
-        let Entry::At(x) = least(cut(log, start, top), lo) else {
-            break p;
-        };
+    while let Some(x) = least(cut(log, start, top), lo) {
         p = push(log, p, x);
         lo = x as usize + 1;
     }
+    p
 }
 
 // The words from `start` to `end` move one place on, and `value` stands before them.
@@ -542,15 +518,8 @@ fn shift(log: &mut [u32], start: usize, end: usize, value: u32)
     requires { (start ≤ end) × (end < length log.old) }
     ensures { Shifted log.old start end value log.new }
 {
-    let mut y = value;
-    let mut i = start;
-    while i < end {
-        let z = log[i];
-        log[i] = y;
-        y = z;
-        i += 1;
-    }
-    log[end] = y;
+    log.copy_within(start..end, start + 1);
+    log[start] = value;
 }
 
 // The number `value` in its place among the words from `at` to `end`, unless it is there; the end after them.
@@ -574,9 +543,8 @@ fn inserted(log: &mut [u32], at: usize, start: usize, top: usize) -> usize
     ensures { Holds at log.new result (push_all (take at log.old) (sort_n (values_in (part log.old start top)))) }
 {
     let mut p = at;
-    let mut i = cut(log, start, top).len() / ROW;
-    while i > 0 {
-        i -= 1;
+    let n = cut(log, start, top).len() / ROW;
+    for i in (0..n).rev() {
         let x = read(log, start + ROW * i + SOURCE);
         p = insert(log, at, p, x);
     }
@@ -615,22 +583,19 @@ fn paired(log: &mut [u32], at: usize, start: usize, top: usize, line: &[u32]) ->
     requires start_le_top { (start ≤ top) × (top ≤ at) }
     ensures { Holds at log.new result (push_all (take at log.old) (pairs_of (drop 2 line.now) (part log.old start top))) }
 {
+    let (pairs, _) = cut(line, 2, line.len()).as_chunks::<2>();
     let mut p = at;
-    let mut i = 2;
     let mut q = start;
-    loop {
-        if line.len() < i + 2 {
-            break p;
-        }
+    for pair in pairs {
         if top < q + ROW {
-            break p;
+            return p;
         }
         let v = read(log, q + SOURCE);
-        p = push(log, p, line[i]);
+        p = push(log, p, pair[0]);
         p = push(log, p, v);
-        i += 2;
         q += ROW;
     }
+    p
 }
 
 // The record of the texts of a node and the values of the rows from `start` to the log's end.

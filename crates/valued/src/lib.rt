@@ -4,20 +4,12 @@
 ghost use Rattle.std.specs.Prelude.{◌≡◌};
 ghost use Rattle.valued.specs.Values.{all_values};
 
-use residual::{ROW, VALUE_ROW};
+use residual::{ROW, VALUE_ROW, WHAT};
 
 // Whether each of these rows is a value.
 pub fn all_values(operands: &[u32]) -> bool
     ensures { result ≡ all_values operands.now }
 {
-    let mut i: usize = 0;
-    loop {
-        if operands.len() - i < ROW {
-            break true;
-        }
-        if operands[i] != VALUE_ROW {
-            break false;
-        }
-        i += ROW;
-    }
+    let (rows, _) = operands.as_chunks::<ROW>();
+    rows.iter().all(|row| row[WHAT] == VALUE_ROW)
 }

@@ -3,15 +3,16 @@ use mathlib.Core.Path.{◌≡◌, sym, ap, ◌∙◌}
 use mathlib.Core.Bool.{Bool, true, false, cond}
 use mathlib.Core.Option.{Option, none, some}
 use mathlib.Core.List.{List}
-use Prim.Native.Nat.{ℕ, ◌+◌}
+use Prim.Native.Nat.{ℕ}
 use native.Mathlib.Omega.{arith}
-use lib.ListN.{get_or}
 use Rattle.cedar.specs.Rows.{Row, rbool, rlong, rtext, rent, rset, rrec}
 use Rattle.lookup.specs.Lookups.{ATTRIBUTES, value_in, line_in, part_of_line, part_in, look_in, look_value, look_attr}
 use Rattle.lookup.specs.declared.Look.{Look}
 use Rattle.lookup.specs.declared.Look.TheVariants.{At as Atˡ, Missing, Unknown as Unknownˡ, Bad}
-use Rattle.notes.specs.Noted.{Noted, Looked}
-use Rattle.firsts.specs.Firsts.{Firsts, Hits, Kept}
+use Rattle.notes.specs.Noted.{Looked}
+use Rattle.firsts.specs.Firsts.{Firsts, Kept}
+use Rattle.notes.specs.declared.Span.{Span}
+use Rattle.firsts.specs.declared.Cell.{Cell}
 use Rattle.walk.specs.Walks.{Found}
 
 -- ---- what is found is found in either mode: they differ where an entity is not listed, and there nothing is found
@@ -46,17 +47,5 @@ module _ (c d : Bool) (a : List ℕ) (u x : ℕ) where
 
 -- ---- found
 
-module _ (c : Bool) (a : List ℕ) (v u : ℕ) (from to owners texts nexts : List ℕ) (f : Firsts a owners texts nexts) where
-  pub found_cell : Noted c a from to → (column cell y : ℕ) (b : Bool) → cell ≡ column + v → Hits owners texts cell v u b → b ≡ true → y ≡ get_or nexts (column + v) 0 → Found c a v u from to owners texts nexts (Atˡ y)
-  found_cell g column cell y b ec h z ey = record {
-    is = ap (λ (j : ℕ). Atˡ j) (ey ∙ ap (λ (j : ℕ). get_or nexts j 0) (sym ec)) ∙ f.is c cell u (h.text z) ∙ ap (λ (j : ℕ). look_attr c a j u) (h.owner z);
-    noted = g;
-    cells = f;
-  }
-
-  module _ (l : Look) (k : Looked c a v u from to l) where
-    pub found_noted : Found c a v u from to owners texts nexts l
-    found_noted = record { is = k.is; noted = k.noted; cells = f }
-
-pub found_kept : (c : Bool) (a : List ℕ) (v u x : ℕ) (from to owners texts nexts owners' texts' nexts' : List ℕ) (l : Look) → Kept v u x owners texts nexts owners' texts' nexts' → l ≡ Atˡ x → Firsts a owners texts nexts → Looked c a v u from to l → Found c a v u from to owners' texts' nexts' (Atˡ x)
-found_kept c a v u x from to owners texts nexts owners' texts' nexts' l p e f k = record { is = sym e ∙ k.is; noted = k.noted; cells = p.is a f (λ d. at_either c d a u x v (sym e ∙ k.is)) }
+pub found_kept : (c : Bool) (a : List ℕ) (v u x : ℕ) (spans : List Span) (cells cells' : List Cell) (l : Look) → Kept v u x cells cells' → l ≡ Atˡ x → Firsts a cells → Looked c a v u spans l → Found c a v u spans cells' (Atˡ x)
+found_kept c a v u x spans cells cells' l p e f k = record { is = sym e ∙ k.is; noted = k.noted; right = p.is a f (λ d. at_either c d a u x v (sym e ∙ k.is)) }

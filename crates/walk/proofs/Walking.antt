@@ -1,12 +1,12 @@
 -- A path of texts, as the code walks it: by what is looked up, by notes, by cells. Assumes nothing.
 use mathlib.Core.Path.{◌≡◌, refl, sym, ap, ◌∙◌}
-use mathlib.Core.Bool.{Bool, true, false, not}
+use mathlib.Core.Bool.{Bool, true, false}
 use mathlib.Core.List.{List}
 use Prim.Native.Nat.{ℕ, suc, ◌+◌, ◌≤◌, ◌<◌}
 use native.Mathlib.Numerals.{add-one}
 use native.Mathlib.Omega.{arith}
-use borrow.Author.Tests.{not-false}
 use lib.ListN.{get_or, length, drop}
+use Rattle.std.specs.Prelude.{Option as Maybe, Some}
 use Rattle.cedar.specs.Evaluate.{is_nil}
 use Rattle.value.proofs.Lists.{uncons, spent}
 use Rattle.lookup.specs.Lookups.{look_attr}
@@ -16,7 +16,9 @@ use Rattle.lookup.specs.declared.Look.TheVariants.{At as Atˡ, Missing, Unknown 
 use Rattle.walk.specs.declared.Walked.{Walked}
 use Rattle.walk.specs.declared.Walked.TheVariants.{Holds, Fails as Failsʷ, Left}
 use Rattle.notes.specs.Noted.{Noted}
-use Rattle.firsts.specs.Firsts.{Firsts, Hits}
+use Rattle.firsts.specs.Firsts.{Firsts, Leads}
+use Rattle.notes.specs.declared.Span.{Span}
+use Rattle.firsts.specs.declared.Cell.{Cell}
 
 -- ---- a path that leads to w
 
@@ -61,24 +63,16 @@ module _ (c : Bool) (a : List ℕ) (w : Walked) (path : List ℕ) (n i : ℕ) (g
 
 -- ---- by notes
 
-pub record Stepping (c : Bool) (a : List ℕ) (w : Walked) (path from₀ to₀ owners₀ texts₀ nexts₀ from to owners texts nexts : List ℕ) (n i : ℕ) : Type 0 where
+pub record Stepping (c : Bool) (a : List ℕ) (w : Walked) (path : List ℕ) (spans : List Span) (cells : List Cell) (n i : ℕ) : Type 0 where
   pub walking : Walking c a w path n i
-  pub noted : Noted c a from to
-  pub cells : Firsts a owners texts nexts
-  pub froms : length from ≡ length from₀
-  pub tos : length to ≡ length to₀
-  pub longo : length owners ≡ length owners₀
-  pub longt : length texts ≡ length texts₀
-  pub longn : length nexts ≡ length nexts₀
+  pub noted : Noted c a spans
+  pub right : Firsts a cells
 
-pub step_start : (c : Bool) (a path from to owners texts nexts : List ℕ) (n i : ℕ) → i ≤ length path → Noted c a from to → Firsts a owners texts nexts → Stepping c a (walk_from c a n i (drop i path)) path from to owners texts nexts from to owners texts nexts n i
-step_start c a path from to owners texts nexts n i h g f = record { walking = walk_start c a path n i h; noted = g; cells = f; froms = refl; tos = refl; longo = refl; longt = refl; longn = refl }
-
-module _ (c : Bool) (a : List ℕ) (w : Walked) (path from₀ to₀ owners₀ texts₀ nexts₀ from to owners texts nexts : List ℕ) (n i : ℕ) (g : Stepping c a w path from₀ to₀ owners₀ texts₀ nexts₀ from to owners texts nexts n i) where
+module _ (c : Bool) (a : List ℕ) (w : Walked) (path : List ℕ) (spans : List Span) (cells : List Cell) (n i : ℕ) (g : Stepping c a w path spans cells n i) where
   pub step_end : length path ≤ i → Failsʷ ≡ w
   step_end h = walk_end c a w path n i g.walking h
 
-  module _ (h : i < length path) (from' to' owners' texts' nexts' : List ℕ) (l : Look) (k : Found c a n (get_or path i 0) from' to' owners' texts' nexts' l) where
+  module _ (h : i < length path) (spans' : List Span) (cells' : List Cell) (l : Look) (k : Found c a n (get_or path i 0) spans' cells' l) where
     pub step_bad : l ≡ Bad → Failsʷ ≡ w
     step_bad e = walk_bad c a w path n i g.walking h l k.is e
 
@@ -92,37 +86,22 @@ module _ (c : Bool) (a : List ℕ) (w : Walked) (path from₀ to₀ owners₀ te
       pub step_last : length path ≤ i + 1 → Holds true ≡ w
       step_last m = walk_last c a w path n i g.walking h l k.is x e m
 
-      pub step_on : i + 1 < length path → length from' ≡ length from → length to' ≡ length to → length owners' ≡ length owners → length texts' ≡ length texts → length nexts' ≡ length nexts
-          → Stepping c a w path from₀ to₀ owners₀ texts₀ nexts₀ from' to' owners' texts' nexts' x (i + 1)
-      step_on m ef et lo lt ln = record { walking = walk_on c a w path n i g.walking h l k.is x e m; noted = k.noted; cells = k.cells; froms = ef ∙ g.froms; tos = et ∙ g.tos; longo = lo ∙ g.longo; longt = lt ∙ g.longt; longn = ln ∙ g.longn }
+      pub step_on : i + 1 < length path → Stepping c a w path spans' cells' x (i + 1)
+      step_on m = record { walking = walk_on c a w path n i g.walking h l k.is x e m; noted = k.noted; right = k.right }
 
 -- ---- by cells
 
-pub record Following (c : Bool) (a : List ℕ) (w : Walked) (path owners₀ texts₀ nexts₀ owners texts nexts : List ℕ) (n i : ℕ) : Type 0 where
+pub record Following (c : Bool) (a : List ℕ) (w : Walked) (path : List ℕ) (cells : List Cell) (n i : ℕ) : Type 0 where
   pub walking : Walking c a w path n i
-  pub cells : Firsts a owners texts nexts
-  pub longo : length owners ≡ length owners₀
-  pub longt : length texts ≡ length texts₀
-  pub longn : length nexts ≡ length nexts₀
+  pub right : Firsts a cells
 
-pub follow_start : (c : Bool) (a path owners texts nexts : List ℕ) (n : ℕ) → Firsts a owners texts nexts → Following c a (walk_from c a n 0 path) path owners texts nexts owners texts nexts n 0
-follow_start c a path owners texts nexts n f = record { walking = walk_start c a path n 0 (omega arith); cells = f; longo = refl; longt = refl; longn = refl }
-
-module _ (c : Bool) (a : List ℕ) (w : Walked) (path owners₀ texts₀ nexts₀ owners texts nexts : List ℕ) (n i : ℕ) (g : Following c a w path owners₀ texts₀ nexts₀ owners texts nexts n i) where
+module _ (c : Bool) (a : List ℕ) (w : Walked) (path : List ℕ) (cells : List Cell) (n i : ℕ) (g : Following c a w path cells n i) where
   pub follow_end : length path ≤ i → Failsʷ ≡ w
   follow_end h = walk_end c a w path n i g.walking h
 
-  pub follow_off : (r : Walked) → r ≡ walk_from c a n i (drop i path) → r ≡ w
-  follow_off r e = e ∙ sym g.walking.left
-
-  module _ (h : i < length path) (cell : ℕ) (b : Bool) (hits : Hits owners texts cell n (get_or path i 0) b) (z : not b ≡ false) where
-    leads_on : Atˡ (get_or nexts cell 0) ≡ look_attr c a n (get_or path i 0)
-    leads_on = g.cells.is c cell (get_or path i 0) (hits.text (not-false b z)) ∙ ap (λ (y : ℕ). look_attr c a y (get_or path i 0)) (hits.owner (not-false b z))
-
+  module _ (h : i < length path) (o : Maybe ℕ) (leads : Leads cells n (get_or path i 0) o) (x : ℕ) (e : o ≡ Some x) where
     pub follow_last : length path ≤ i + 1 → Holds true ≡ w
-    follow_last m = walk_last c a w path n i g.walking h (Atˡ (get_or nexts cell 0)) leads_on (get_or nexts cell 0) refl m
+    follow_last m = walk_last c a w path n i g.walking h (Atˡ x) (leads.is a g.right x e c) x refl m
 
-    pub follow_on : (column y : ℕ) → cell ≡ column + n → y ≡ get_or nexts (column + n) 0 → i + 1 < length path → Following c a w path owners₀ texts₀ nexts₀ owners texts nexts y (i + 1)
-    follow_on column y ec ey m =
-        let e : y ≡ get_or nexts cell 0 = ey ∙ ap (λ (j : ℕ). get_or nexts j 0) (sym ec) in
-        record { walking = rw e (walk_on c a w path n i g.walking h (Atˡ (get_or nexts cell 0)) leads_on (get_or nexts cell 0) refl m); cells = g.cells; longo = g.longo; longt = g.longt; longn = g.longn }
+    pub follow_on : i + 1 < length path → Following c a w path cells x (i + 1)
+    follow_on m = record { walking = walk_on c a w path n i g.walking h (Atˡ x) (leads.is a g.right x e c) x refl m; right = g.right }

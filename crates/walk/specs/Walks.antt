@@ -4,6 +4,8 @@ use Rattle.cedar.specs.Evaluate.{is_nil}
 use Rattle.lookup.specs.Lookups.{look_attr}
 use Rattle.notes.specs.Noted.{Noted}
 use Rattle.firsts.specs.Firsts.{Firsts}
+use Rattle.notes.specs.declared.Span.{Span}
+use Rattle.firsts.specs.declared.Cell.{Cell}
 use Rattle.lookup.specs.declared.Look.{Look}
 use Rattle.lookup.specs.declared.Look.TheVariants.{At as Atˡ, Missing, Unknown as Unknownˡ, Bad}
 use Rattle.walk.specs.declared.Walked.{Walked}
@@ -22,7 +24,7 @@ walk_from c a n i [] = Failsʷ
 walk_from c a n i (t ∷ ts) = walk_step n i (look_attr c a n t) (is_nil ts) (λ x. walk_from c a x (suc i) ts)
 
 -- text u is looked up in value v, and what is noted of entries and in cells holds
-pub record Found (c : Bool) (a : List ℕ) (v u : ℕ) (from to owners texts nexts : List ℕ) (l : Look) : Type 0 where
+pub record Found (c : Bool) (a : List ℕ) (v u : ℕ) (spans : List Span) (cells : List Cell) (l : Look) : Type 0 where
   pub is : l ≡ look_attr c a v u
-  pub noted : Noted c a from to
-  pub cells : Firsts a owners texts nexts
+  pub noted : Noted c a spans
+  pub right : Firsts a cells

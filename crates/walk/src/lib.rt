@@ -3,18 +3,15 @@
 #![tactic(auto)]
 
 ghost use Rattle.std.specs.Prelude.{◌≡◌, ◌+◌, ◌≤◌, ◌<◌, length, drop};
-ghost use Rattle.sheet.specs.Forms.{ENTITY};
-ghost use Rattle.table.specs.Layout.{rows_of};
 ghost use Rattle.walk.specs.Walks.{walk_from, Found};
-ghost use Rattle.notes.specs.Chains.{Chained};
-ghost use Rattle.firsts.specs.Firsts.{CELLS, Firsts};
+ghost use Rattle.firsts.specs.Firsts.{Firsts};
 ghost use Rattle.notes.specs.Noted.{Noted};
 
-use firsts::{CELLS, cell_at, cell_in, column_of, firsts, keep, leads};
+use firsts::{BLANK, CELLS, Cell, firsts, keep, next};
 use forms::ENTITY;
 use lookup::{Look, TEXTS};
-use notes::chains::index;
-use notes::look_noted;
+use notes::chains::{Chains, index};
+use notes::{NOWHERE, Span, look_noted};
 use reach::{LINES, VALUES};
 use table::count;
 
@@ -31,78 +28,58 @@ pub enum Walked {
 
 // `text` among the attributes of a record or an entity, by its cell; what the cell does not have is looked up, and put there where it is found.
 fn look_kept(
-    rows: &[u32],
+    chains: &Chains,
     complete: bool,
     value: u32,
     text: u32,
-    heads: &[u32],
-    links: &[u32],
-    from: &mut [u32],
-    to: &mut [u32],
-    owners: &mut [u32],
-    texts: &mut [u32],
-    nexts: &mut [u32],
+    spans: &mut [Span],
+    cells: &mut [Cell],
 ) -> Look
-    requires chained { Chained rows.now (rows_of rows.now ENTITY) 0 heads.now links.now }
-    requires noted { Noted complete rows.now from.old to.old }
-    requires firsts { Firsts rows.now owners.old texts.old nexts.old }
-    ensures { Found complete rows.now value text from.new to.new owners.new texts.new nexts.new result }
+    requires noted { Noted complete chains.now.rows.now spans.old }
+    requires firsts { Firsts chains.now.rows.now cells.old }
+    ensures { Found complete chains.now.rows.now value text spans.new cells.new result }
 {
-    let column = column_of(text);
-    let cell = cell_in(column, value);
-    if leads(owners, texts, cell, value, text) {
-        return Look::At(cell_at(nexts, column, value));
+    if let Some(x) = next(cells, value, text) {
+        return Look::At(x);
     }
-    let l = look_noted(rows, complete, value, text, heads, links, from, to);
+    let l = look_noted(chains, complete, value, text, spans);
     let Look::At(x) = l else {
         return l;
     };
-    keep(value, text, x, owners, texts, nexts);
+    keep(cells, value, text, x);
     l
 }
 
-// A path of texts from step `first` on, at value `value`, by cells, and with tables by value for what is noted.
+// A path of texts from step `first` on, at value `value`, by cells, and with a table by value for what is noted.
 fn walk_noted(
-    rows: &[u32],
+    chains: &Chains,
     complete: bool,
     value: u32,
     first: usize,
     path: &[u32],
-    heads: &[u32],
-    links: &[u32],
-    from: &mut [u32],
-    to: &mut [u32],
-    owners: &mut [u32],
-    texts: &mut [u32],
-    nexts: &mut [u32],
+    spans: &mut [Span],
+    cells: &mut [Cell],
 ) -> Walked
     requires first_in_bounds { first ≤ length path.now }
-    requires chained { Chained rows.now (rows_of rows.now ENTITY) 0 heads.now links.now }
-    requires noted { Noted complete rows.now from.old to.old }
-    requires firsts { Firsts rows.now owners.old texts.old nexts.old }
-    ensures { result ≡ walk_from complete rows.now value first (drop first path.now) }
+    requires noted { Noted complete chains.now.rows.now spans.old }
+    requires firsts { Firsts chains.now.rows.now cells.old }
+    ensures { result ≡ walk_from complete chains.now.rows.now value first (drop first path.now) }
 {
     let mut n = value;
-    let mut i = first;
-    loop {
-        if i >= path.len() {
-            break Walked::Fails;
-        }
-        match look_kept(
-            rows, complete, n, path[i], heads, links, from, to, owners, texts, nexts,
-        ) {
-            Look::Bad => break Walked::Fails,
-            Look::Missing => break Walked::Holds(false),
-            Look::Unknown(k) => break Walked::Left(n, k, i),
+    for i in first..path.len() {
+        match look_kept(chains, complete, n, path[i], spans, cells) {
+            Look::Bad => return Walked::Fails,
+            Look::Missing => return Walked::Holds(false),
+            Look::Unknown(k) => return Walked::Left(n, k, i),
             Look::At(x) => {
                 if i + 1 >= path.len() {
-                    break Walked::Holds(true);
+                    return Walked::Holds(true);
                 }
                 n = x;
             }
         }
-        i += 1;
     }
+    Walked::Fails
 }
 
 // A long path of texts from step `first` on, at value `value`, by chains and notes.
@@ -112,33 +89,22 @@ fn walk_chained(
     value: u32,
     first: usize,
     path: &[u32],
-    owners: &mut [u32],
-    texts: &mut [u32],
-    nexts: &mut [u32],
+    cells: &mut [Cell],
 ) -> Walked
     requires first_in_bounds { first ≤ length path.now }
-    requires firsts { Firsts rows.now owners.old texts.old nexts.old }
+    requires firsts { Firsts rows.now cells.old }
     ensures { result ≡ walk_from complete rows.now value first (drop first path.now) }
 {
     let mut heads: [u32; TEXTS] = [0; TEXTS];
     let mut links: [u32; LINES] = [0; LINES];
     index(rows, &mut heads[..], &mut links[..]);
-    let mut from: [u32; VALUES] = [0; VALUES];
-    let mut to: [u32; VALUES] = [0; VALUES];
-    walk_noted(
+    let chains = Chains {
         rows,
-        complete,
-        value,
-        first,
-        path,
-        &heads[..],
-        &links[..],
-        &mut from[..],
-        &mut to[..],
-        owners,
-        texts,
-        nexts,
-    )
+        heads: &heads[..],
+        links: &links[..],
+    };
+    let mut spans = [NOWHERE; VALUES];
+    walk_noted(&chains, complete, value, first, path, &mut spans[..], cells)
 }
 
 // A path of texts from step `first` on, at value `value`. Where few steps are left, little is noted, and no chains are made.
@@ -148,103 +114,57 @@ fn walk_on(
     value: u32,
     first: usize,
     path: &[u32],
-    owners: &mut [u32],
-    texts: &mut [u32],
-    nexts: &mut [u32],
+    cells: &mut [Cell],
 ) -> Walked
     requires first_in_bounds { first ≤ length path.now }
-    requires firsts { Firsts rows.now owners.old texts.old nexts.old }
+    requires firsts { Firsts rows.now cells.old }
     ensures { result ≡ walk_from complete rows.now value first (drop first path.now) }
 {
     if path.len() - first >= LONG {
-        return walk_chained(rows, complete, value, first, path, owners, texts, nexts);
+        return walk_chained(rows, complete, value, first, path, cells);
     }
-    let mut from: [u32; 1] = [0; 1];
-    let mut to: [u32; 1] = [0; 1];
-    walk_noted(
+    let chains = Chains {
         rows,
-        complete,
-        value,
-        first,
-        path,
-        &rows[0..0],
-        &rows[0..0],
-        &mut from[..],
-        &mut to[..],
-        owners,
-        texts,
-        nexts,
-    )
+        heads: &rows[0..0],
+        links: &rows[0..0],
+    };
+    let mut spans = [NOWHERE; 1];
+    walk_noted(&chains, complete, value, first, path, &mut spans[..], cells)
 }
 
 // A path of texts from value `value` on, by the attributes noted as far as they lead.
-fn walk_firsts(
-    rows: &[u32],
-    complete: bool,
-    value: u32,
-    path: &[u32],
-    owners: &mut [u32],
-    texts: &mut [u32],
-    nexts: &mut [u32],
-) -> Walked
-    requires { Firsts rows.now owners.old texts.old nexts.old }
+fn walk_firsts(rows: &[u32], complete: bool, value: u32, path: &[u32], cells: &mut [Cell]) -> Walked
+    requires { Firsts rows.now cells.old }
     ensures { result ≡ walk_from complete rows.now value 0 path.now }
 {
     let mut n = value;
-    let mut i = 0;
-    loop {
-        if i >= path.len() {
-            break Walked::Fails;
-        }
-        let column = column_of(path[i]);
-        let cell = cell_in(column, n);
-        if !leads(owners, texts, cell, n, path[i]) {
-            break walk_on(rows, complete, n, i, path, owners, texts, nexts);
-        }
+    for (i, &text) in path.iter().enumerate() {
+        let Some(x) = next(cells, n, text) else {
+            return walk_on(rows, complete, n, i, path, cells);
+        };
         if i + 1 >= path.len() {
-            break Walked::Holds(true);
+            return Walked::Holds(true);
         }
-        n = cell_at(nexts, column, n);
-        i += 1;
+        n = x;
     }
+    Walked::Fails
 }
 
 // A long path of texts from value `value` on: the attributes of entities are noted.
 fn walk_long(rows: &[u32], complete: bool, value: u32, path: &[u32]) -> Walked
     ensures { result ≡ walk_from complete rows.now value 0 path.now }
 {
-    let mut owners: [u32; CELLS] = [0; CELLS];
-    let mut texts: [u32; CELLS] = [0; CELLS];
-    let mut nexts: [u32; CELLS] = [0; CELLS];
-    firsts(rows, &mut owners[..], &mut texts[..], &mut nexts[..]);
-    walk_firsts(
-        rows,
-        complete,
-        value,
-        path,
-        &mut owners[..],
-        &mut texts[..],
-        &mut nexts[..],
-    )
+    let mut cells = [BLANK; CELLS];
+    firsts(rows, &mut cells[..]);
+    walk_firsts(rows, complete, value, path, &mut cells[..])
 }
 
 // A path of texts from value `value` on, with no cells.
 fn walk_short(rows: &[u32], complete: bool, value: u32, path: &[u32]) -> Walked
     ensures { result ≡ walk_from complete rows.now value 0 path.now }
 {
-    let mut owners: [u32; 1] = [0; 1];
-    let mut texts: [u32; 1] = [0; 1];
-    let mut nexts: [u32; 1] = [0; 1];
-    walk_on(
-        rows,
-        complete,
-        value,
-        0,
-        path,
-        &mut owners[..],
-        &mut texts[..],
-        &mut nexts[..],
-    )
+    let mut cells = [BLANK; 1];
+    walk_on(rows, complete, value, 0, path, &mut cells[..])
 }
 
 // A path of texts from value `value` on. For a short one, one of few steps for the entities there are, and where there are none, no attributes are noted.

@@ -1,4 +1,5 @@
 -- Numbers on the command line: the digits in turn, a number that is greater stays so, and a word of more than 20 bytes is none. Assumes nothing.
+use Rattle.std.proofs.Common.{Some, None}
 use mathlib.Core.Path.{◌≡◌, refl, sym, ◌∙◌, ap}
 use mathlib.Core.Bool.{Bool, true, false, cond}
 use mathlib.Core.List.{List, [], ◌∷◌}
@@ -12,8 +13,7 @@ use lib.ListN.{length, get_or, drop, drop_of_length-le}
 use lib.Seq.{drop-cons}
 use Rattle.print.specs.Written.{greatest}
 use Rattle.sheet.specs.Bytes.{is_digit, digits_from, decimal, at_most}
-use Rattle.scan.specs.Numbers.{number_of}
-use Rattle.scan.specs.declared.Number as N
+use Rattle.scan.specs.Numbers.{Number, number_of}
 use Rattle.wording.specs.Worded.{number_in}
 
 -- ---- one digit more
@@ -53,32 +53,32 @@ pub reading_start : (s : List ℕ) → Reading s 0 0
 reading_start s = record { near = omega arith; low = omega arith; left = refl }
 
 module _ (s : List ℕ) (n i : ℕ) (k : Reading s n i) where
-  pub reading_low : i < length s → get_or s i 0 < 48 → number_of N.TheVariants.Refused ≡ at_most greatest (digits_from 0 s)
+  pub reading_low : i < length s → get_or s i 0 < 48 → number_of None ≡ at_most greatest (digits_from 0 s)
   reading_low h l = sym (k.left ∙ ap (at_most greatest) (digit_low n s i h l))
 
-  pub reading_high : i < length s → 48 ≤ get_or s i 0 → 57 < get_or s i 0 → number_of N.TheVariants.Refused ≡ at_most greatest (digits_from 0 s)
+  pub reading_high : i < length s → 48 ≤ get_or s i 0 → 57 < get_or s i 0 → number_of None ≡ at_most greatest (digits_from 0 s)
   reading_high h l g = sym (k.left ∙ ap (at_most greatest) (digit_high n s i h l g))
 
-  too_great : i < length s → 48 ≤ get_or s i 0 → get_or s i 0 ≤ 57 → greatest < n * 10 + (get_or s i 0 - 48) → number_of N.TheVariants.Refused ≡ at_most greatest (digits_from 0 s)
+  too_great : i < length s → 48 ≤ get_or s i 0 → get_or s i 0 ≤ 57 → greatest < n * 10 + (get_or s i 0 - 48) → number_of None ≡ at_most greatest (digits_from 0 s)
   too_great h l g o = sym (k.left ∙ ap (at_most greatest) (digit_on n s i h l g) ∙ over (n * 10 + (get_or s i 0 - 48)) (drop (i + 1) s) o)
 
-  pub reading_full : i < length s → 48 ≤ get_or s i 0 → get_or s i 0 ≤ 57 → 18446744073709551615 / 10 < n → number_of N.TheVariants.Refused ≡ at_most greatest (digits_from 0 s)
+  pub reading_full : i < length s → 48 ≤ get_or s i 0 → get_or s i 0 ≤ 57 → 18446744073709551615 / 10 < n → number_of None ≡ at_most greatest (digits_from 0 s)
   reading_full h l g o = too_great h l g (omega arith)
 
   pub reading_over : i < length s → 48 ≤ get_or s i 0 → get_or s i 0 ≤ 57 → n ≤ 18446744073709551615 / 10 → 18446744073709551615 - n * 10 < get_or s i 0 - 48
-      → number_of N.TheVariants.Refused ≡ at_most greatest (digits_from 0 s)
+      → number_of None ≡ at_most greatest (digits_from 0 s)
   reading_over h l g m o = too_great h l g (omega arith)
 
   pub reading_on_law : i < length s → 48 ≤ get_or s i 0 → get_or s i 0 ≤ 57 → n ≤ 18446744073709551615 / 10 → get_or s i 0 - 48 ≤ 18446744073709551615 - n * 10 → Reading s (n * 10 + (get_or s i 0 - 48)) (i + 1)
   reading_on_law h l g m o = record { near = omega arith; low = omega arith; left = k.left ∙ ap (at_most greatest) (digit_on n s i h l g) }
 
-  pub reading_done : length s ≤ i → number_of (N.TheVariants.Value n) ≡ at_most greatest (digits_from 0 s)
+  pub reading_done : length s ≤ i → number_of (Some n) ≡ at_most greatest (digits_from 0 s)
   reading_done h = sym (k.left ∙ ap (λ l. at_most greatest (digits_from n l)) (drop_of_length-le s h) ∙ rw (le-leb n greatest k.low))
 
 -- ---- a decimal number, by its length and its first byte
 
 module _ (s : List ℕ) where
-  pub number_empty : length s ≡ 0 → number_of N.TheVariants.Refused ≡ number_in s
+  pub number_empty : length s ≡ 0 → number_of None ≡ number_in s
   unfolding number_in
   number_empty h = go s h
     where
@@ -86,7 +86,7 @@ module _ (s : List ℕ) where
       go [] e = refl
       go (x ∷ l) e = absurd (omega arith)
 
-  module _ (r : N.Number) (e : number_of r ≡ at_most greatest (digits_from 0 s)) where
+  module _ (r : Number) (e : number_of r ≡ at_most greatest (digits_from 0 s)) where
     pub number_one : length s ≡ 1 → number_of r ≡ number_in s
     unfolding number_in
     number_one h = e ∙ ap (at_most greatest) (go s h)
@@ -105,7 +105,7 @@ module _ (s : List ℕ) where
         go (x ∷ []) a b z = absurd (b refl)
         go (x ∷ y ∷ l) a b z = simp (ne_eqb _ _ z)
 
-  pub number_zero : (length s ≡ 0 → ⊥) → (length s ≡ 1 → ⊥) → get_or s 0 0 ≡ 48 → number_of N.TheVariants.Refused ≡ number_in s
+  pub number_zero : (length s ≡ 0 → ⊥) → (length s ≡ 1 → ⊥) → get_or s 0 0 ≡ 48 → number_of None ≡ number_in s
   unfolding number_in
   number_zero a b z = go s a b z
     where

@@ -2,9 +2,10 @@
 #![tactic(auto)]
 
 ghost use Rattle.std.specs.Prelude.{◌≡◌, [], ◌∷◌, ◌++◌, min};
-ghost use Rattle.print.specs.Written.{greatest, Written};
-ghost use Rattle.sheet.specs.Ascii.{ascii};
+ghost use Rattle.print.specs.Out.{Prints};
+ghost use Rattle.print.specs.Written.{greatest};
 ghost use Rattle.sheet.specs.Bytes.{digits_from, at_most};
+ghost use Rattle.sheet.specs.Ascii.{ascii};
 ghost use Rattle.sheet.specs.Answer.{decision_word};
 ghost use Rattle.scan.specs.Numbers.{number_of};
 ghost use Rattle.firm.specs.Parts.{decision_in, rows_in};
@@ -12,8 +13,8 @@ ghost use Rattle.firm.specs.Words.{rows_of_words};
 ghost use Rattle.wording.specs.Worded.{says_complete, refusal, rows_text, quote_text, number_in};
 
 use firm::{ALLOW, DENY, ROW};
-use print::{byte, bytes, number};
-use scan::{Number, find, front, same_bytes};
+use print::Out;
+use scan::{find, front};
 
 // ---- a sheet
 
@@ -22,68 +23,64 @@ pub fn says_complete(sheet: &[u8]) -> bool
     ensures { result ≡ says_complete sheet.now }
 {
     let n = find(sheet, 0, b'\n');
-    let line = front(sheet, n);
-    same_bytes(line, b"sheet=complete")
+    front(sheet, n) == b"sheet=complete".as_slice()
 }
 
 // ---- lines
 
-// The line of a refusal at the start of the buffer, and its length.
-pub fn refused(out: &mut [u8], n: u32, line: usize, length: usize) -> usize
-    ensures { Written out.old 0 (refusal n line length) out.new result }
+// The line of a refusal.
+pub fn refused(out: &mut Out, n: u32, line: usize, length: usize)
+    ensures { Prints out.old (refusal n line length) out.new }
 {
-    let a = bytes(out, 0, b"refused=");
-    let b = number(out, a, n as u64);
-    let c = byte(out, b, b',');
-    let d = number(out, c, line as u64);
-    let e = byte(out, d, b',');
-    let f = number(out, e, length as u64);
-    byte(out, f, b'\n')
+    out.bytes(b"refused=");
+    out.number(n as u64);
+    out.byte(b',');
+    out.number(line as u64);
+    out.byte(b',');
+    out.number(length as u64);
+    out.byte(b'\n');
 }
 
 // The word of a decision that a number says.
-fn decision_word(out: &mut [u8], at: usize, decision: u32) -> usize
-    ensures { Written out.old at (ascii (decision_word (decision_in decision))) out.new result }
+fn decision_word(out: &mut Out, decision: u32)
+    ensures { Prints out.old (ascii (decision_word (decision_in decision))) out.new }
 {
     if decision == ALLOW {
-        return bytes(out, at, b"allow");
+        out.bytes(b"allow");
+        return;
     }
     if decision == DENY {
-        return bytes(out, at, b"deny");
+        out.bytes(b"deny");
+        return;
     }
-    bytes(out, at, b"open")
+    out.bytes(b"open");
 }
 
 // A line of a decision.
-fn decision_line(out: &mut [u8], at: usize, key: &[u8], decision: u32) -> usize
-    ensures { Written out.old at (key.now ++ (61 ∷ ascii (decision_word (decision_in decision)) ++ (10 ∷ []))) out.new result }
+fn decision_line(out: &mut Out, key: &[u8], decision: u32)
+    ensures { Prints out.old (key.now ++ (61 ∷ ascii (decision_word (decision_in decision)) ++ (10 ∷ []))) out.new }
 {
-    let a = bytes(out, at, key);
-    let b = byte(out, a, b'=');
-    let c = decision_word(out, b, decision);
-    byte(out, c, b'\n')
+    out.bytes(key);
+    out.byte(b'=');
+    decision_word(out, decision);
+    out.byte(b'\n');
 }
 
 // A line of each row's decision, the last of a row's words.
-fn row_lines(out: &mut [u8], at: usize, rows: &[u32]) -> usize
-    ensures { Written out.old at (rows_text (rows_in (rows_of_words rows.now))) out.new result }
+fn row_lines(out: &mut Out, rows: &[u32])
+    ensures { Prints out.old (rows_text (rows_in (rows_of_words rows.now))) out.new }
 {
-    let n = rows.len() / ROW;
-    let mut k = at;
-    let mut i = 0;
-    while i < n {
-        k = decision_line(out, k, b"row", rows[i * ROW + 2]);
-        i += 1;
+    for i in 0..rows.len() / ROW {
+        decision_line(out, b"row", rows[i * ROW + 2]);
     }
-    k
 }
 
 // The lines of a whole firm's decisions: the group's, then one of each row's.
-pub fn quote_lines(out: &mut [u8], at: usize, group: u32, rows: &[u32]) -> usize
-    ensures { Written out.old at (quote_text (decision_in group) (rows_in (rows_of_words rows.now))) out.new result }
+pub fn quote_lines(out: &mut Out, group: u32, rows: &[u32])
+    ensures { Prints out.old (quote_text (decision_in group) (rows_in (rows_of_words rows.now))) out.new }
 {
-    let k = decision_line(out, at, b"group", group);
-    row_lines(out, k, rows)
+    decision_line(out, b"group", group);
+    row_lines(out, rows);
 }
 
 // ---- numbers on the command line
@@ -92,45 +89,42 @@ pub fn quote_lines(out: &mut [u8], at: usize, group: u32, rows: &[u32]) -> usize
 const MOST: u64 = 18446744073709551615;
 
 // The number that digits write, leading zeros or not: nothing wraps.
-fn digits_of(word: &[u8]) -> Number
+fn digits_of(word: &[u8]) -> Option<u64>
     ensures { number_of result ≡ at_most greatest (digits_from 0 word.now) }
 {
     let mut n: u64 = 0;
-    let mut i = 0;
-    while i < word.len() {
-        let x = word[i];
+    for &x in word {
         if x < b'0' {
-            return Number::Refused;
+            return None;
         }
         if x > b'9' {
-            return Number::Refused;
+            return None;
         }
         if n > MOST / 10 {
-            return Number::Refused;
+            return None;
         }
         let tens = n * 10;
         let digit = (x - b'0') as u64;
         if digit > MOST - tens {
-            return Number::Refused;
+            return None;
         }
         n = tens + digit;
-        i += 1;
     }
-    Number::Value(n)
+    Some(n)
 }
 
 // A decimal number.
-pub fn number_of(word: &[u8]) -> Number
+pub fn number_of(word: &[u8]) -> Option<u64>
     ensures { number_of result ≡ number_in word.now }
 {
     if word.len() == 0 {
-        return Number::Refused;
+        return None;
     }
     if word.len() == 1 {
         return digits_of(word);
     }
     if word[0] == b'0' {
-        return Number::Refused;
+        return None;
     }
     digits_of(word)
 }

@@ -7,7 +7,8 @@ use Prim.Native.Nat.{ℕ, zero, suc, ◌+◌, ◌*◌, ◌/◌, ◌%◌, ◌^◌
 use native.Mathlib.Nat.{div-div-eq-div-mul, mul_comm, pow-suc, one-mul}
 use native.Mathlib.Numerals.{add-one}
 use native.Mathlib.Omega.{arith}
-use native.Mathlib.Decide.{dec_lt}
+use native.Mathlib.Decide.{dec_lt, dec_le}
+use Rattle.std.proofs.Common.{min}
 use borrow.Author.Tests.{eqb-true, eqb-false, eq-eqb}
 use lib.Bits.{bit_or, or_shr, or_mod}
 use lib.Dec.{eqb}
@@ -218,9 +219,6 @@ pub record Joining (w₀ v w : List ℕ) (i : ℕ) : Type 0 where
   pub long : length w ≡ length w₀
   pub left : joined w₀ v ≡ take i w ++ joined (drop i w) (drop i v)
 
-pub joining_start : (w v : List ℕ) → Joining w v w 0
-joining_start w v = record { long = refl; left = refl }
-
 module _ (w₀ v w : List ℕ) (i : ℕ) (s : Joining w₀ v w i) where
   pub joining_on : i < length w → i < length v → Joining w₀ v (set w i (bit_or (get_or w i 0) (get_or v i 0))) (i + 1)
   unfolding joined
@@ -232,9 +230,10 @@ module _ (w₀ v w : List ℕ) (i : ℕ) (s : Joining w₀ v w i) where
             (sym (append_assoc (take i w) (bit_or (get_or w i 0) (get_or v i 0) ∷ []) (joined (drop (suc i) w) (drop (suc i) v))));
       }
 
-  pub joining_full : length v ≤ i → w ≡ joined w₀ v
-  joining_full h = sym (s.left ∙ rw (drop_of_length-le v h, joined_none (drop i w)) (take-append-drop i w))
-
-  pub joining_end : length w ≤ i → w ≡ joined w₀ v
+  pub joining_end : min (length w) (length v) ≤ i → w ≡ joined w₀ v
   unfolding joined
-  joining_end h = sym (s.left ∙ rw (drop_of_length-le w h, append-nil) (take_all i w h))
+  joining_end h = sym (s.left ∙ go (dec_le (length v) i))
+    where
+      go : Dec (length v ≤ i) → take i w ++ joined (drop i w) (drop i v) ≡ w
+      go (yes g) = rw (drop_of_length-le v g, joined_none (drop i w)) (take-append-drop i w)
+      go (no g) = let g' : length w ≤ i = omega arith in rw (drop_of_length-le w g', append-nil) (take_all i w g')

@@ -1,12 +1,12 @@
 -- The laws of a log, the list `take top w`. Assumes nothing.
 use mathlib.Core.Path.{◌≡◌, refl, sym, ap, ◌∙◌}
-use mathlib.Core.List.{List, [], ◌∷◌, ◌++◌, append_assoc}
+use mathlib.Core.List.{List, ◌++◌, append_assoc}
 use mathlib.Core.Bool.{Bool, true, false, cond, and-eq-true_iff}
 use Prim.Native.Nat.{ℕ, ◌+◌, ◌-◌, ◌≤◌, ◌<◌}
 use native.Mathlib.Nat.{le_refl}
 use native.Mathlib.Omega.{arith}
 use native.Mathlib.Decide.{dec_le, dec_lt}
-use lib.ListN.{length, take, drop, set, get_or, length-take, length-append, get_or-eq_default}
+use lib.ListN.{length, take, drop, set, get_or, length-take, length-append}
 use lib.Seq.{take-append_seam, take-length, length-take-le, get_or-take, take-set-lt, take-set-le, set_out, take-take, sets, length-sets}
 use lib.Dec.{leb}
 use borrow.Author.Tests.{le-leb, lt-leb, leb-true}
@@ -21,9 +21,6 @@ log_length w top h = length-take-le top w (omega arith)
 
 pub log_read : (w : List ℕ) (top i : ℕ) → i < top → get_or w i 0 ≡ get_or (take top w) i 0
 log_read w top i h = sym (get_or-take top w i 0 h)
-
-pub log_past : (w : List ℕ) (top i : ℕ) → top ≤ i → 0 ≡ get_or (take top w) i 0
-log_past w top i h = sym (get_or-eq_default (take top w) 0 (rw (length-take top w) (omega arith)))
 
 -- ---- going back
 
@@ -75,16 +72,9 @@ appended_keeps l xs = go (dec_le (length l + length xs) 16384)
 
 -- ---- appending to a slice: the test, and what each answer leaves
 
-pub room_over : (len top n : ℕ) → 16384 < top → false ≡ has_room len top n
-unfolding has_room
-room_over len top n h = rw (lt-leb (top + n) 16384 (omega arith))
-
 pub room_full : (len top n : ℕ) → 16384 < top + n → false ≡ has_room len top n
 unfolding has_room
 room_full len top n h = rw (lt-leb (top + n) 16384 h)
-
-pub room_most : (len top n : ℕ) → top ≤ 16384 → 16384 - top < n → false ≡ has_room len top n
-room_most len top n l h = room_full len top n (omega arith)
 
 pub room_left : (len top n : ℕ) → top ≤ 16384 → n ≤ 16384 - top → leb (top + n) len ≡ has_room len top n
 unfolding has_room
@@ -98,19 +88,10 @@ room_within len top n h =
     (leb-true (top + n) 16384 a.0, leb-true (top + n) len a.1)
 
 module _ (w : List ℕ) (top : ℕ) (xs : List ℕ) (b : Bool) (e : b ≡ has_room (length w) top (length xs)) where
-  pub append_in : b ≡ true → Appended w top xs (sets w top xs) (top + length xs)
-  append_in h =
-      let t : has_room (length w) top (length xs) ≡ true = sym e ∙ h in
-      record { words = rw t; end = rw t }
-
   pub append_out : b ≡ false → Appended w top xs w top
   append_out h =
       let t : has_room (length w) top (length xs) ≡ false = sym e ∙ h in
       record { words = rw t; end = rw t }
-
--- one word more
-pub push_in : (w : List ℕ) (top x : ℕ) (b : Bool) → b ≡ has_room (length w) top 1 → b ≡ true → Appended w top (x ∷ []) (set w top x) (top + 1)
-push_in w top x b e h = append_in w top (x ∷ []) b e h
 
 -- a run of stores in the place of the words that it writes
 pub append_stored : (w : List ℕ) (top : ℕ) (xs is : List ℕ) (b : Bool) → b ≡ has_room (length w) top (length xs) → b ≡ true → is ≡ sets w top xs

@@ -3,21 +3,16 @@ use mathlib.Core.Path.{◌≡◌, refl, sym, ap, ◌∙◌}
 use mathlib.Core.List.{List, [], ◌∷◌, ◌++◌, append_assoc}
 use Prim.Native.Nat.{ℕ, zero, suc, ◌+◌, ◌-◌, ◌≤◌, ◌<◌}
 use native.Mathlib.Nat.{add-zero, add-suc, suc-add}
-use native.Mathlib.Numerals.{add-one}
 use native.Mathlib.Omega.{arith}
-use borrow.Author.Fill.{fill_more}
 use borrow.Author.Tests.{lt-ltb, le-ltb}
-use lib.ListN.{length, get_or, take, drop, set, replicate, length-set, length-drop, length-append, length-replicate, drop_of_length-le, get_or-replicate, get_or-eq_default, get_or-append}
-use lib.Seq.{take-take, take_all, take-nil, take-set-le, drop-set-lt, get_or-take, get_or-drop, drop-cons, sets, sets-eq, set_out, drop_at, take_at, length-take-le}
+use lib.ListN.{length, get_or, take, drop, set, replicate, take-append-drop, length-drop, length-append, length-replicate, get_or-replicate, get_or-append}
+use lib.Seq.{take-take, take_all, take-set-le, drop-set-lt, drop-drop, get_or-take, get_or-drop, sets, sets-eq, length-sets, set_out, drop_at, take_at, length-take-le}
+use Rattle.std.proofs.Common.{min}
+use native.Mathlib.Decide.{dec_le}
+use borrow.Rule.Slice.PartMut.{put_mid}
 use Rattle.words.specs.Log.{part, zeros, cleared}
 
 -- ---- one word
-
-pub read_out : (w : List ℕ) (i : ℕ) → length w ≤ i → 0 ≡ get_or w i 0
-read_out w i h = sym (get_or-eq_default w 0 h)
-
-pub put_out : (w : List ℕ) (i x : ℕ) → length w ≤ i → w ≡ set w i x
-put_out w i x h = sym (set_out w i x h)
 
 -- ---- parts
 
@@ -27,15 +22,6 @@ part_none w a e h =
     let p : e - e ≡ 0 = omega arith in
     let q : e - a ≡ 0 = omega arith in
     rw (p, q)
-
--- a part that runs past the end is the rest
-pub part_rest : (w : List ℕ) (a e : ℕ) → length w ≤ e → take (length w - a) (drop a w) ≡ part w a e
-part_rest w a e h =
-    take_all (length w - a) (drop a w) (rw (length-drop a w) (omega arith))
-    ∙ sym (take_all (e - a) (drop a w) (rw (length-drop a w) (omega arith)))
-
-pub part_past_end : (w : List ℕ) (a e : ℕ) → length w ≤ a → [] ≡ part w a e
-part_past_end w a e h = rw (drop_of_length-le w h, take-nil (e - a))
 
 pub length_part : (w : List ℕ) (a e : ℕ) → e ≤ length w → length (part w a e) ≡ e - a
 length_part w a e h = length-take-le (e - a) (drop a w) (rw (length-drop a w) (omega arith))
@@ -89,27 +75,26 @@ sets_out [] w i h = refl
 sets_out (a ∷ vs) w i h =
     ap (λ (l : List ℕ). sets l (suc i) vs) (set_out w i a h) ∙ sets_out vs w (suc i) (omega arith)
 
--- where a run of stores stands: from w₀ at place `at` all of row is left to store, now at place k of w the rest from i on
-pub record Storing (row w₀ : List ℕ) (at : ℕ) (w : List ℕ) (k i : ℕ) : Type 0 where
-  pub long : length w ≡ length w₀
-  pub left : sets w₀ at row ≡ sets w k (drop i row)
+-- of a run that goes past the end only what has a place is stored
+sets_cut : (vs w : List ℕ) (i n : ℕ) → n ≤ length vs → length w ≤ i + n → sets w i (take n vs) ≡ sets w i vs
+sets_cut vs w i n h l =
+    let e : length (take n vs) ≡ n = length-take-le n vs h in
+    let f : length (sets w i (take n vs)) ≤ i + length (take n vs) = omega (arith, length-sets w i (take n vs)) in
+    sym (ap (sets w i) (sym (take-append-drop n vs)) ∙ sets_append (take n vs) (drop n vs) w i ∙ sets_out (drop n vs) (sets w i (take n vs)) (i + length (take n vs)) f)
 
-pub storing_start : (row w : List ℕ) (at : ℕ) → Storing row w at w at 0
-storing_start row w at = record { long = refl; left = refl }
+pub stored_part : (w vs : List ℕ) (i a n k : ℕ) → a ≡ min i (length w) → n ≡ min (length vs) (length w - a) → k ≡ n → put_mid a k w (take n vs) ≡ sets w i vs
+stored_part w vs i a n k ea en ek = go (dec_le (length w) i) (dec_le (length vs) n)
+  where
+    part_in : i ≡ a → put_mid a k w (take n vs) ≡ sets w i (take n vs)
+    part_in e =
+        let l : length (take n vs) ≡ n = length-take-le n vs (omega arith) in
+        let m : i + length (take n vs) ≤ length w = omega arith in
+        rw (sets-eq (take n vs) w i m, l, ek, e, drop-drop n a w) (sym (append_assoc (take a w) (take n vs) (drop (a + n) w)))
 
-module _ (row w₀ : List ℕ) (at : ℕ) (w : List ℕ) (k i : ℕ) (s : Storing row w₀ at w k i) where
-  pub storing_on : i < length row → Storing row w₀ at (set w k (get_or row i 0)) (k + 1) (i + 1)
-  storing_on h =
-      record {
-        long = length-set w k (get_or row i 0) ∙ s.long;
-        left = s.left ∙ rw (drop-cons row i 0 h, add-one k, add-one i);
-      }
-
-  pub storing_full : length w ≤ k → w ≡ sets w₀ at row
-  storing_full h = sym (s.left ∙ sets_out (drop i row) w k h)
-
-  pub storing_end : length row ≤ i → w ≡ sets w₀ at row
-  storing_end h = sym (s.left ∙ ap (sets w k) (drop_of_length-le row h))
+    go : Dec (length w ≤ i) → Dec (length vs ≤ n) → put_mid a k w (take n vs) ≡ sets w i vs
+    go (yes h) d = let z : n ≡ 0 = omega arith in rw (ek, z) (take-append-drop a w) ∙ sym (sets_out vs w i h)
+    go (no h) (yes d) = part_in (omega arith) ∙ ap (sets w i) (take_all n vs d)
+    go (no h) (no d) = part_in (omega arith) ∙ sets_cut vs w i n (omega arith) (omega arith)
 
 -- ---- words that agree below a place
 
@@ -133,9 +118,9 @@ module _ (k : ℕ) (w w' : List ℕ) (e : drop k w' ≡ drop k w) where
 -- ---- words cleared; a law on zeros takes their number as a variable: at a numeral they would be written out
 
 module _ (n : ℕ) where
-  pub zeros_more : (w : List ℕ) → n < length w → set (zeros n w) n 0 ≡ zeros (n + 1) w
+  pub zeros_fill : (w v : List ℕ) → n ≤ length w → v ≡ replicate (length (take n w)) 0 → v ++ drop n w ≡ zeros n w
   unfolding zeros
-  zeros_more w h = fill_more n 0 w h
+  zeros_fill w v h e = rw (e, length-take-le n w h)
 
   pub zeros_same : (w v : List ℕ) → drop n w ≡ drop n v → zeros n w ≡ zeros n v
   unfolding zeros
@@ -158,10 +143,6 @@ module _ (n : ℕ) where
   get_d_zeros w i h =
       get_or-append (replicate n 0) (drop n w) 0 i (rw (length-replicate {A = ℕ} n 0) h) ∙ get_or-replicate n i 0 0 h
 
-pub zeros_none : (w : List ℕ) → w ≡ zeros 0 w
-unfolding zeros
-zeros_none w = refl
-
 pub cleared_short : (w : List ℕ) → length w < 16384 → w ≡ cleared w
 unfolding cleared
 cleared_short w h = rw (lt-ltb (length w) 16384 h)
@@ -169,28 +150,3 @@ cleared_short w h = rw (lt-ltb (length w) 16384 h)
 pub cleared_long : (w : List ℕ) → 16384 ≤ length w → zeros 16384 w ≡ cleared w
 unfolding cleared
 cleared_long w h = rw (le-ltb (length w) 16384 h)
-
--- where clearing stands: the first i words of w₀ are 0
-pub record Clearing (w₀ w : List ℕ) (i : ℕ) : Type 0 where
-  pub near : i ≤ 16384
-  pub long : length w ≡ length w₀
-  pub room : 16384 ≤ length w₀
-  pub front : w ≡ zeros i w₀
-
-pub clearing_start : (w : List ℕ) → 16384 ≤ length w → Clearing w w 0
-clearing_start w h = record { near = omega arith; long = refl; room = h; front = zeros_none w }
-
-module _ (w₀ w : List ℕ) (i : ℕ) (c : Clearing w₀ w i) where
-  pub clearing_on : i < 16384 → Clearing w₀ (set w i 0) (i + 1)
-  clearing_on h =
-      record {
-        near = omega arith;
-        long = length-set w i 0 ∙ c.long;
-        room = c.room;
-        front = ap (λ (x : List ℕ). set x i 0) c.front ∙ zeros_more i w₀ (omega (arith, c.room));
-      }
-
-  pub clearing_end : 16384 ≤ i → w ≡ cleared w₀
-  clearing_end h =
-      let e : i ≡ 16384 = omega (arith, c.near) in
-      c.front ∙ ap (λ (n : ℕ). zeros n w₀) e ∙ cleared_long w₀ c.room

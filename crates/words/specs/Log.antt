@@ -3,7 +3,7 @@ use Rattle.std.specs.Prelude.{◌≡◌, List, [], ◌∷◌, ◌++◌, Bool, co
 use Rattle.std.proofs.lemmas.List.Edits.{sets}
 
 -- the part from a to e, cut at the end
-abbrev pub part : List ℕ → ℕ → ℕ → List ℕ
+abbrev pub part : {T : Type 0} → List T → ℕ → ℕ → List T
 part w a e = take (e - a) (drop a w)
 
 -- ---- a log: the list of the first `top` words of a slice

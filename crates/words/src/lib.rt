@@ -4,22 +4,26 @@
 // several to a word.
 #![tactic(auto)]
 
-ghost use Rattle.std.specs.Prelude.{◌≡◌, [], ◌∷◌, ◌%◌, ◌^◌, get_or, take, set};
+ghost use Rattle.std.specs.Prelude.{◌≡◌, [], ◌∷◌, ◌%◌, ◌^◌, ◌≤◌, length, get_or, take, set};
 ghost use Rattle.std.proofs.lemmas.List.Edits.{sets};
-ghost use Rattle.words.specs.Log.{part, has_room, Appended, cleared};
+ghost use Rattle.words.specs.Log.{part, has_room, Appended, zeros, cleared};
 ghost use Rattle.words.specs.Bits.{member, added, joined, digit_of, byte_of};
 
 // The words of a slice that a log may take.
 pub const ROOM: usize = 16384;
 
+// An item of a slice, or `other` past its end.
+pub fn item_or<T: Copy>(items: &[T], i: usize, other: T) -> T
+    ensures { result ≡ get_or items.now i other }
+{
+    items.get(i).copied().unwrap_or(other)
+}
+
 // A word of the slice.
 pub fn read(words: &[u32], i: usize) -> u32
     ensures { result ≡ get_or words.now i 0 }
 {
-    if i < words.len() {
-        return words[i];
-    }
-    0
+    item_or(words, i, 0)
 }
 
 // A word of the log.
@@ -33,27 +37,19 @@ pub fn word(words: &[u32], top: usize, i: usize) -> u32
 }
 
 // The part from `start` to `end`, cut at the end.
-pub fn cut(words: &[u32], start: usize, end: usize) -> &[u32]
-    ensures { result.now ≡ part words.now start end }
+pub fn cut<T>(items: &[T], start: usize, end: usize) -> &[T]
+    ensures { result.now ≡ part items.now start end }
 {
-    if end <= words.len() {
-        if start <= end {
-            return &words[start..end];
-        }
-        return &words[end..end];
-    }
-    if start <= words.len() {
-        return &words[start..];
-    }
-    &words[0..0]
+    let end = end.min(items.len());
+    &items[start.min(end)..end]
 }
 
-// Another word in the place of one.
-pub fn put(words: &mut [u32], i: usize, word: u32)
-    ensures { words.new ≡ set words.old i word }
+// Another item in the place of one.
+pub fn put<T: Copy>(items: &mut [T], i: usize, item: T)
+    ensures { items.new ≡ set items.old i item }
 {
-    if i < words.len() {
-        words[i] = word;
+    if i < items.len() {
+        items[i] = item;
     }
 }
 
@@ -61,40 +57,23 @@ pub fn put(words: &mut [u32], i: usize, word: u32)
 pub fn store(words: &mut [u32], at: usize, row: &[u32])
     ensures { words.new ≡ sets words.old at row.now }
 {
-    let mut k = at;
-    let mut i = 0;
-    while i < row.len() {
-        if k >= words.len() {
-            return;
-        }
-        words[k] = row[i];
-        k += 1;
-        i += 1;
-    }
+    let at = at.min(words.len());
+    let n = row.len().min(words.len() - at);
+    words[at..at + n].copy_from_slice(&row[..n]);
 }
 
 // Whether a slice of `len` words has room for `n` more after the log's end.
 fn has_room(len: usize, top: usize, n: usize) -> bool
     ensures { result ≡ has_room len top n }
 {
-    if top > ROOM {
-        return false;
-    }
-    if n > ROOM - top {
-        return false;
-    }
-    top + n <= len
+    top.saturating_add(n) <= len.min(ROOM)
 }
 
 // One word at the log's end, and the end after it.
 pub fn push(words: &mut [u32], top: usize, word: u32) -> usize
     ensures { Appended words.old top (word ∷ []) words.new result }
 {
-    if has_room(words.len(), top, 1) {
-        words[top] = word;
-        return top + 1;
-    }
-    top
+    append(words, top, &[word])
 }
 
 // A run of words at the log's end, all or none of it, and the end after it.
@@ -108,6 +87,14 @@ pub fn append(words: &mut [u32], top: usize, row: &[u32]) -> usize
     top
 }
 
+// The words before `end` become 0.
+pub fn zero(words: &mut [u32], end: usize)
+    requires { end ≤ length words.old }
+    ensures { words.new ≡ zeros end words.old }
+{
+    words[..end].fill(0);
+}
+
 // The first 16,384 words become 0, the rest stays; a shorter slice stays whole.
 pub fn clear(words: &mut [u32])
     ensures { words.new ≡ cleared words.old }
@@ -115,11 +102,7 @@ pub fn clear(words: &mut [u32])
     if words.len() < ROOM {
         return;
     }
-    let mut i = 0;
-    while i < ROOM {
-        words[i] = 0;
-        i += 1;
-    }
+    zero(words, ROOM);
 }
 
 // The word that has the bit of `number` alone.
@@ -156,13 +139,8 @@ pub fn add(words: &mut [u32], number: usize)
 pub fn join(words: &mut [u32], other: &[u32])
     ensures { words.new ≡ joined words.old other.now }
 {
-    let mut i = 0;
-    while i < words.len() {
-        if i >= other.len() {
-            return;
-        }
-        words[i] = words[i] | other[i];
-        i += 1;
+    for i in 0..words.len().min(other.len()) {
+        words[i] |= other[i];
     }
 }
 

@@ -8,6 +8,7 @@ use native.Mathlib.Decide.{dec_lt}
 use borrow.Author.Tests.{lt-ltb, le-ltb}
 use lib.ListN.{length, get_or, set, length-append, length-set}
 use lib.Seq.{get_or-set_same, get_or-set_other}
+use Rattle.std.specs.Prelude.{Ok}
 use Rattle.words.specs.Log.{pushed}
 use Rattle.words.proofs.Logs.{appended_is}
 use Rattle.cedar.specs.Value.{Value as Content, Values, Fields, vset, ok}
@@ -31,7 +32,6 @@ use Rattle.residual.specs.Rows.{lit_row}
 use Rattle.tpe.proofs.Reach.{reach}
 use Rattle.tpe.proofs.Sets.{sort_short}
 use Rattle.evaluator.specs.Run.{made_of}
-use Rattle.evaluator.specs.declared.Yield.TheVariants.{Value}
 use Rattle.evaluator.proofs.Gives.{Says, says_value, Stand}
 use Rattle.carried.specs.Carry.{number_there, member_rows, fields_onto, field_words, row_there, There, carried_from}
 use Rattle.yielding.proofs.Getting.{Gets, Space, gets_made}
@@ -275,7 +275,7 @@ module _ (sheet a₀ : List ℕ) (G : Env) (K : List Content) (given : List (Lis
     unfolding made_of
     number_at = go got.says
       where
-        go : {n : ℕ} {x : Content} → Says got.contents (Value n) (ok x) → At got.contents n x
+        go : {n : ℕ} {x : Content} → Says got.contents (Ok n) (ok x) → At got.contents n x
         go (says_value e) = e
 
     next_low : Below (g + suc i) (set ns i (number_of a (row_there f r))) got.contents

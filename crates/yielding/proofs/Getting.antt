@@ -8,6 +8,7 @@ use Prim.Native.Nat.{ℕ, ◌+◌, ◌≤◌}
 use native.Mathlib.Omega.{arith}
 use borrow.Author.Tests.{lt-ltb, le-leb}
 use lib.ListN.{length, get_or}
+use Rattle.std.specs.Prelude.{Ok}
 use Rattle.cedar.specs.Types.{Var}
 use Rattle.cedar.specs.Value.{Value as Content, vbool, Result, ok, fail, bind, ok_bool}
 use Rattle.cedar.specs.Entities.{Env}
@@ -30,10 +31,8 @@ use Rattle.tpe.specs.Run.{words_of}
 use Rattle.tpe.proofs.Outcomes.{Fine, words_row, words_formed, words_short}
 use Rattle.tpe.proofs.Reach.{reach, asks, reach_most, reach_asked}
 use Rattle.tpe.proofs.Stands.{same_sheet, env_is}
-use Rattle.evaluator.specs.Run.{E, yields, made_of, give_of, settle_of, opt_of, on_yield, bool_only, next, env_of}
+use Rattle.evaluator.specs.Run.{failed, Yield, E, yields, made_of, give_of, settle_of, opt_of, on_yield, bool_only, next, env_of}
 use Rattle.evaluator.specs.Gave.{as_bool, yield_bool, same_bool}
-use Rattle.evaluator.specs.declared.Yield.{Yield}
-use Rattle.evaluator.specs.declared.Yield.TheVariants.{Value, Error}
 use Rattle.evaluator.proofs.Gives.{Says, says_value, says_error, Stand}
 use Rattle.evaluator.proofs.Steps.{OptFine, request_fine}
 use Rattle.yielding.specs.Yields.{lazy_by, lazy_of, branch_by, branch_of}
@@ -58,8 +57,8 @@ module _ (sheet a₀ : List ℕ) (G : Env) where
     pub gets_as : (w c : ℕ) (y : Yield) (r : Result) → Says C y r → Gets C w c a (yields a y) r
     gets_as w c y r h = record { contents = C; keeps = λ n v e. e; stand = s; says = h; top = omega arith; few = omega arith }
 
-    pub gets_error : (w c : ℕ) → Gets C w c a (yields a Error) fail
-    gets_error w c = gets_as w c Error fail says_error
+    pub gets_error : (w c : ℕ) → Gets C w c a (yields a failed) fail
+    gets_error w c = gets_as w c failed fail says_error
 
     module _ (q : List ℕ) (f : Formed q) where
       room_for_law : (w : ℕ) → Space w a → length q ≤ w → room_for a (length q) ≡ true
@@ -97,7 +96,7 @@ module _ (sheet a₀ : List ℕ) (G : Env) where
     pub gets_settled : Space 3 a → {x : NOut} {y : Result} → OutReads C x (gives y) → Fine x → Gets C 3 1 a (settle_of a x) y
     unfolding settle_of give_of
     gets_settled space (omade {r = r} {v = v} d) f = gets_made (words_of r) (words_formed r f) 3 space (words_short r f) (subst (λ (q : Row). Denotes C q v) (sym (words_row r f)) d)
-    gets_settled space (oold {n = n} h) f = gets_as 3 1 (Value n) _ (says_value h)
+    gets_settled space (oold {n = n} h) f = gets_as 3 1 (Ok n) _ (says_value h)
     gets_settled space ofail f = gets_error 3 1
 
     -- a part of the request
@@ -109,7 +108,7 @@ module _ (sheet a₀ : List ℕ) (G : Env) where
     unfolding opt_of give_of
     opt_gets space x e (give_made {r = r} {v = v} d) f =
         gets_asked (words_of r) (words_formed r f) space (words_short r f) x (e ∙ ap (λ (z : Row). some (made z)) (sym (words_row r f))) (subst (λ (q : Row). Denotes C q v) (sym (words_row r f)) d)
-    opt_gets space x e (give_old {n = n} h) f = gets_as 0 1 (Value n) _ (says_value h)
+    opt_gets space x e (give_old {n = n} h) f = gets_as 0 1 (Ok n) _ (says_value h)
 
     pub gets_request : Space 3 a → (x : Var) → Gets C 0 1 a (opt_of a ((env_of a).request x)) (ok (G.request x))
     gets_request space x = rw (env_is complete [] a₀ a s.hold) (opt_gets space x (asked_as x) (s.env.request x) (request_fine (held [] a₀ []) x))
@@ -134,14 +133,14 @@ module _ (sheet a₀ : List ℕ) (G : Env) where
 
     -- what a yield says as a bool, and the result
     data Truly : Option Bool → Yield → Result → Type 0 where
-      truly_is : {v : ℕ} {b : Bool} → At C v (vbool b) → Truly (some b) (Value v) (ok_bool b)
+      truly_is : {v : ℕ} {b : Bool} → At C v (vbool b) → Truly (some b) (Ok v) (ok_bool b)
       truly_not : {y : Yield} {r : Result} → ((h : Bool → Result) → bool_of r h ≡ fail) → Truly none y r
 
     truly : {y : Yield} {r : Result} → Says C y r → Truly (yield_bool a y) y r
     unfolding yield_bool as_bool
     truly (says_value {n = n} {v = v} h) = go v h (row_denotes s.table h)
       where
-        go : (x : Content) → At C n x → {q : Row} → Denotes C q x → Truly (as_bool q) (Value n) (ok x)
+        go : (x : Content) → At C n x → {q : Row} → Denotes C q x → Truly (as_bool q) (Ok n) (ok x)
         go x e dbool = truly_is e
         go x e dlong = truly_not (λ h. refl)
         go x e dtext = truly_not (λ h. refl)
@@ -155,7 +154,7 @@ module _ (sheet a₀ : List ℕ) (G : Env) where
     unfolding bool_only next on_yield
     bool_says (says_value {n = n} {v = v} h) = go v h (row_denotes s.table h)
       where
-        go : (x : Content) → At C n x → {q : Row} → Denotes C q x → Says C (r_bool (yields a Error) q (λ b. yields a (Value n))).yield (bool_of (ok x) ok_bool)
+        go : (x : Content) → At C n x → {q : Row} → Denotes C q x → Says C (r_bool (yields a failed) q (λ b. yields a (Ok n))).yield (bool_of (ok x) ok_bool)
         go x e dbool = says_value e
         go x e dlong = says_error
         go x e dtext = says_error

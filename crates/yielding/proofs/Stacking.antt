@@ -7,6 +7,7 @@ use native.Mathlib.Omega.{arith}
 use borrow.Author.Tests.{ne_eqb}
 use lib.ListN.{length, get_or, take, length-append}
 use lib.Seq.{take-append_seam, drop-append_seam, get_or-append-add}
+use Rattle.std.specs.Prelude.{Ok, Err}
 use Rattle.words.proofs.Logs.{appended_is}
 use Rattle.cedar.specs.Types.{Ty}
 use Rattle.cedar.specs.Value.{Value as Content, Result}
@@ -25,9 +26,7 @@ use Rattle.residual.specs.Trees.{Res, rlit, rerr, rleft, Ress, rnil, rcons, flat
 use Rattle.residual.proofs.Meaning.{trees_count, suited}
 use Rattle.tpe.proofs.Reach.{reach}
 use Rattle.tpe.proofs.Stands.{Hold}
-use Rattle.evaluator.specs.Run.{E, class_of}
-use Rattle.evaluator.specs.declared.Yield.{Yield}
-use Rattle.evaluator.specs.declared.Yield.TheVariants.{Value, Error}
+use Rattle.evaluator.specs.Run.{failed, Yield, E, class_of}
 use Rattle.evaluator.proofs.Evaluates.{class_is}
 use Rattle.evaluator.proofs.Gives.{Says, says_value, says_error, Stand}
 use Rattle.evaluator.proofs.Steps.{sch, same_node}
@@ -51,8 +50,8 @@ pub data Rowed : List Slot → Type 0 where
   rowed_more : {p : Slot} {ps : List Slot} → 4 ≤ p.words → Rowed ps → Rowed (p ∷ ps)
 
 type_word : (y : Yield) (w : ℕ) (q : List ℕ) → get_or (yield_row y w ++ q) 3 0 ≡ w
-type_word (Value v) w q = refl
-type_word Error w q = refl
+type_word (Ok v) w q = refl
+type_word (Err e) w q = refl
 
 one_back : (l : List ℕ) (j m w : ℕ) → get_or l (ROW * j + ROW_TYPE) 0 ≡ w → 4 ≤ w → rows_back l (suc j) (m + w) ≡ rows_back l j m
 unfolding rows_back
@@ -242,7 +241,7 @@ module _ (sheet a₀ : List ℕ) (G : Env) (ts : List Ty) (K : List Content) (g 
     unfolding flat tree_of
     lit_block v y X h (xlit {v = x} e) = record {
       words = a;
-      yield = Value (number_there g ns v);
+      yield = Ok (number_there g ns v);
       contents = C;
       keeps = λ j z q. q;
       stand = st;
@@ -256,7 +255,7 @@ module _ (sheet a₀ : List ℕ) (G : Env) (ts : List Ty) (K : List Content) (g 
     unfolding flat tree_of
     err_block y X h xerr = record {
       words = a;
-      yield = Error;
+      yield = failed;
       contents = C;
       keeps = λ j z q. q;
       stand = st;
@@ -407,8 +406,8 @@ module _ (sheet a₀ : List ℕ) (G : Env) (ts : List Ty) (K : List Content) (g 
 
   row_class : (a : List ℕ) (y : Yield) (w : ℕ) (q : List ℕ) → classes_in a (yield_row y w ++ q) ≡ class_number (class_of a y) ∷ classes_in a q
   unfolding classes_in yield_in
-  row_class a (Value v) w q = refl
-  row_class a Error w q = refl
+  row_class a (Ok v) w q = refl
+  row_class a (Err e) w q = refl
 
   classes_are : {C : List Content} {a : List ℕ} (ps : List Slot) (Xs : List Expr) → Stand sheet a₀ G C a → Say sheet a₀ G C ps (eval_each sheet a₀ G Xs) → classes_in a (yield_rows ps) ≡ classes_of Xs
   unfolding yield_rows classes_in

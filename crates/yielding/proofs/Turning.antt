@@ -1,6 +1,6 @@
 -- The laws of the functions of the stack, one for each way. Assumes nothing.
 use mathlib.Core.Path.{◌≡◌, refl, sym, ap, ap₂, ◌∙◌}
-use mathlib.Core.Bool.{Bool, true, false, cond}
+use mathlib.Core.Bool.{Bool, true, false, cond, beq}
 use mathlib.Core.List.{List, [], ◌∷◌, ◌++◌, append_assoc, append-nil}
 use Prim.Native.Nat.{ℕ, zero, suc, ◌+◌, ◌-◌, ◌*◌, ◌/◌, ◌≤◌, ◌<◌}
 use native.Mathlib.Omega.{arith}
@@ -8,6 +8,14 @@ use borrow.Author.Tests.{lt-ltb, le-ltb, eq-eqb, ne_eqb}
 use lib.Dec.{eqb}
 use lib.ListN.{length, get_or, take, drop, set, length-drop, length-set}
 use lib.Seq.{length-take-le, get_or-take, get_or-drop, take-set-lt, drop-set-lt}
+use Rattle.std.specs.Prelude.{Option, Result, Ok, Err}
+use Rattle.std.specs.Result.{IsErr, result_ok}
+use Rattle.std.specs.Simd.{first_chunks}
+use Rattle.cedar.specs.Residual.{Class}
+use Rattle.value.proofs.Lists.{uncons, spent}
+use Rattle.evaluator.specs.declared.EvalError.{EvalError}
+use Rattle.evaluator.proofs.Settles.{is_failed}
+use mathlib.Core.Option.{some}
 use Rattle.words.specs.Log.{part, Room, Holds, Appended, appended}
 use Rattle.words.proofs.Logs.{append_holds, log_length, log_cut, holds_from, holds_as}
 use Rattle.sheet.specs.Forms.{tag, NODE, VALUE}
@@ -20,13 +28,8 @@ use Rattle.strict.specs.declared.Given.{Given}
 use Rattle.residual.specs.Rows.{ROW, ROW_TYPE, VALUE_ROW, ERROR_ROW, lit_row, err_row}
 use Rattle.residual.specs.Classes.{class_number}
 use Rattle.valued.specs.Values.{all_values}
-use Rattle.evaluator.specs.Run.{yields, node_in, made_of, settle_of, opt_of, on_yield, bool_only, walk_out, two_out, one_out, env_of, class_of}
+use Rattle.evaluator.specs.Run.{failed, Yield, yields, node_in, made_of, settle_of, opt_of, on_yield, bool_only, walk_out, two_out, one_out, env_of, class_of}
 use Rattle.evaluator.specs.Gave.{Gave, GaveBeside, Done, truth_of, yield_bool, same_bool}
-use Rattle.evaluator.specs.declared.Yield.{Yield}
-use Rattle.evaluator.specs.declared.Yield.TheVariants.{Value, Error}
-use Rattle.evaluator.specs.declared.Truth.{Truth}
-use Rattle.evaluator.specs.declared.Truth.TheVariants.{Is, Other}
-use Rattle.valued.proofs.Valued.{four}
 use Rattle.evaluator.proofs.Given.{to_end}
 use Rattle.carried.specs.Carry.{number_there, carried_of, Carried}
 use Rattle.yielding.specs.Yields.{yield_row, yield_in, rows_back, start_of, Started, lazy_by, lazy_of, logic_of, branch_by, branch_of, one_of, two_of, over_of, many_of, set_of, record_of, node_by, node_of, Stacked, stacked, leaves, turn_of, ran_of, Turned, classes_in, yielded_of}
@@ -48,34 +51,29 @@ part_of (x ∷ w) (suc s) (suc e) = let z : e - s ≡ suc e - suc s = omega arit
 from_front : (b : List ℕ) (e : ℕ) → part b 0 e ≡ take e b
 from_front b e = sym (part_of b 0 e)
 
+-- the four words of a row
+four : (q : List ℕ) (i : ℕ) → i + 4 ≤ length q → drop i q ≡ get_or q i 0 ∷ get_or q (i + 1) 0 ∷ get_or q (i + 2) 0 ∷ get_or q (i + 3) 0 ∷ drop (i + 4) q
+four q i h =
+    let z : i + 1 + 1 ≡ i + 2 = omega arith in
+    let y : i + 2 + 1 ≡ i + 3 = omega arith in
+    let x : i + 3 + 1 ≡ i + 4 = omega arith in
+    uncons q 0 i (omega (arith, h))
+    ∙ ap (λ (l : List ℕ). get_or q i 0 ∷ l) (uncons q 0 (i + 1) (omega (arith, h)) ∙ ap (λ (j : ℕ). get_or q (i + 1) 0 ∷ drop j q) z)
+    ∙ ap (λ (l : List ℕ). get_or q i 0 ∷ get_or q (i + 1) 0 ∷ l) (uncons q 0 (i + 2) (omega (arith, h)) ∙ ap (λ (j : ℕ). get_or q (i + 2) 0 ∷ drop j q) y)
+    ∙ ap (λ (l : List ℕ). get_or q i 0 ∷ get_or q (i + 1) 0 ∷ get_or q (i + 2) 0 ∷ l) (uncons q 0 (i + 3) (omega (arith, h)) ∙ ap (λ (j : ℕ). get_or q (i + 3) 0 ∷ drop j q) x)
+
 -- ---- a yield read and pushed
 
 module _ (q : List ℕ) (i x : ℕ) (ex : x ≡ get_or q i 0) where
-  pub in_value : (v : ℕ) → x ≡ VALUE_ROW → v ≡ get_or q (i + 1) 0 → Value v ≡ yield_in q i
+  pub in_value : (v : ℕ) → x ≡ VALUE_ROW → v ≡ get_or q (i + 1) 0 → Ok v ≡ yield_in q i
   unfolding yield_in
-  in_value v e ev = rw (eq-eqb (get_or q i 0) VALUE_ROW (sym ex ∙ e)) (ap Value ev)
+  in_value v e ev = rw (eq-eqb (get_or q i 0) VALUE_ROW (sym ex ∙ e)) (ap Ok ev)
 
-  pub in_error : (x ≡ VALUE_ROW → ⊥) → Error ≡ yield_in q i
+  pub in_error : (x ≡ VALUE_ROW → ⊥) → failed ≡ yield_in q i
   unfolding yield_in
   in_error n = rw (ne_eqb (get_or q i 0) VALUE_ROW (λ z. n (ex ∙ z)))
 
-module _ (b : List ℕ) (top w : ℕ) (y : Yield) (b₁ : List ℕ) (e : ℕ) where
-  pub push_value_is : (v : ℕ) → y ≡ Value v → Appended b top (lit_row v w) b₁ e → Appended b top (yield_row y w) b₁ e
-  push_value_is v h p = rw h p
-
-  pub push_error_is : y ≡ Error → Appended b top (err_row w) b₁ e → Appended b top (yield_row y w) b₁ e
-  push_error_is h p = rw h p
-
 -- ---- where operands begin
-
-pub back_most : (l : List ℕ) (n m : ℕ) → rows_back l n m ≤ n
-unfolding rows_back
-back_most l zero m = omega arith
-back_most l (suc n) m = go (eqb m 0) (back_most l n (m - get_or l (ROW * n + ROW_TYPE) 0))
-  where
-    go : (b : Bool) → rows_back l n (m - get_or l (ROW * n + ROW_TYPE) 0) ≤ n → cond b (suc n) (rows_back l n (m - get_or l (ROW * n + ROW_TYPE) 0)) ≤ suc n
-    go true h = omega arith
-    go false h = omega (arith, h)
 
 pub back_zero : (l : List ℕ) (n m : ℕ) → m ≡ 0 → rows_back l n m ≡ n
 unfolding rows_back
@@ -91,9 +89,6 @@ back_step l (suc n) m hn hm = let z : n ≡ suc n - 1 = omega arith in rw (ne_eq
 pub record Backing (l : List ℕ) (w n m : ℕ) : Type 0 where
   pub near : n ≤ length l / 4
   pub left : rows_back l n m ≡ rows_back l (length l / 4) w
-
-pub back_start : (l : List ℕ) (w n : ℕ) → n ≡ length l / 4 → Backing l w n w
-back_start l w n e = record { near = omega arith; left = ap (λ (k : ℕ). rows_back l k w) e }
 
 module _ (l : List ℕ) (w n m : ℕ) (k : Backing l w n m) where
   pub back_none : n ≡ 0 → Started l w 0
@@ -111,31 +106,50 @@ module _ (l : List ℕ) (w n m : ℕ) (k : Backing l w n m) where
 
 -- ---- and, or, if
 
-module _ (a : List ℕ) (y : Yield) (t : Truth) (et : truth_of t ≡ yield_bool a y) where
-  pub lazy_other : (z : Bool) (u : Yield) → t ≡ Other → Error ≡ lazy_of z a y u
-  unfolding lazy_of lazy_by
-  lazy_other z u e = sym (ap (lazy_by z a y u) (sym et ∙ ap truth_of e))
+-- the bool that decides
+same_true : (x z : Bool) → beq x z ≡ true → same_bool x z ≡ true
+unfolding same_bool
+same_true true true h = refl
+same_true true false h = cc
+same_true false true h = cc
+same_true false false h = refl
 
-  pub lazy_left : (z : Bool) (u : Yield) (x c : Bool) → t ≡ Is x → c ≡ same_bool x z → c ≡ true → y ≡ lazy_of z a y u
-  unfolding lazy_of lazy_by
-  lazy_left z u x c e ec k = sym (ap (lazy_by z a y u) (sym et ∙ ap truth_of e) ∙ ap (λ (b : Bool). cond b y (bool_only (yields a u)).yield) (sym ec ∙ k))
+same_false : (x z : Bool) → beq x z ≡ false → same_bool x z ≡ false
+unfolding same_bool
+same_false true true h = cc
+same_false true false h = refl
+same_false false true h = refl
+same_false false false h = cc
 
-  pub lazy_right : (z : Bool) (u : Yield) (x c : Bool) (v : Yield) → t ≡ Is x → c ≡ same_bool x z → c ≡ false → Gave (bool_only (yields a u)) a v → v ≡ lazy_of z a y u
+module _ (a : List ℕ) (y : Yield) (t : Option Bool) (et : truth_of t ≡ yield_bool a y) (o : Result Bool EvalError) (eo : t ≡ result_ok o) where
+  pub lazy_other : (z : Bool) (u : Yield) (f : EvalError) → o ≡ Err f → (r : Yield) → IsErr r → r ≡ lazy_of z a y u
   unfolding lazy_of lazy_by
-  lazy_right z u x c v e ec k g = g.yield ∙ sym (ap (lazy_by z a y u) (sym et ∙ ap truth_of e) ∙ ap (λ (b : Bool). cond b y (bool_only (yields a u)).yield) (sym ec ∙ k))
+  lazy_other z u f e r er = is_failed r er ∙ sym (ap (lazy_by z a y u) (sym et ∙ ap truth_of (eo ∙ ap result_ok e)))
+
+  module _ (x : Bool) (e : o ≡ Ok x) where
+    says : yield_bool a y ≡ some x
+    says = sym et ∙ ap truth_of (eo ∙ ap result_ok e)
+
+    pub lazy_left : (z : Bool) (u : Yield) → beq x z ≡ true → y ≡ lazy_of z a y u
+    unfolding lazy_of lazy_by
+    lazy_left z u k = sym (ap (lazy_by z a y u) says ∙ ap (λ (b : Bool). cond b y (bool_only (yields a u)).yield) (same_true x z k))
+
+    pub lazy_right : (z : Bool) (u v : Yield) → beq x z ≡ false → Gave (bool_only (yields a u)) a v → v ≡ lazy_of z a y u
+    unfolding lazy_of lazy_by
+    lazy_right z u v k g = g.yield ∙ sym (ap (lazy_by z a y u) says ∙ ap (λ (b : Bool). cond b y (bool_only (yields a u)).yield) (same_false x z k))
 
   module _ (u w : Yield) where
-    pub if_other : t ≡ Other → Error ≡ branch_of a y u w
+    pub if_other : (f : EvalError) → o ≡ Err f → (r : Yield) → IsErr r → r ≡ branch_of a y u w
     unfolding branch_of branch_by
-    if_other e = sym (ap (branch_by u w) (sym et ∙ ap truth_of e))
+    if_other f e r er = is_failed r er ∙ sym (ap (branch_by u w) (sym et ∙ ap truth_of (eo ∙ ap result_ok e)))
 
-    pub if_true : (x : Bool) → t ≡ Is x → x ≡ true → u ≡ branch_of a y u w
+    pub if_true : (x : Bool) → o ≡ Ok x → x ≡ true → u ≡ branch_of a y u w
     unfolding branch_of branch_by
-    if_true x e k = sym (ap (branch_by u w) (sym et ∙ ap truth_of e) ∙ ap (λ (b : Bool). cond b u w) k)
+    if_true x e k = sym (ap (branch_by u w) (says x e) ∙ ap (λ (b : Bool). cond b u w) k)
 
-    pub if_false : (x : Bool) → t ≡ Is x → x ≡ false → w ≡ branch_of a y u w
+    pub if_false : (x : Bool) → o ≡ Ok x → x ≡ false → w ≡ branch_of a y u w
     unfolding branch_of branch_by
-    if_false x e k = sym (ap (branch_by u w) (sym et ∙ ap truth_of e) ∙ ap (λ (b : Bool). cond b u w) k)
+    if_false x e k = sym (ap (branch_by u w) (says x e) ∙ ap (λ (b : Bool). cond b u w) k)
 
 module _ (t : ℕ) (a : List ℕ) (y u v : Yield) where
   pub logic_and : t ≡ AND → v ≡ lazy_of false a y u → v ≡ logic_of t a y u
@@ -146,38 +160,38 @@ module _ (t : ℕ) (a : List ℕ) (y u v : Yield) where
   unfolding logic_of
   logic_or e h = rw e h
 
-pub logic_none : (t : ℕ) (a : List ℕ) (y u : Yield) → (t ≡ AND → ⊥) → (t ≡ OR → ⊥) → Error ≡ logic_of t a y u
+pub logic_none : (t : ℕ) (a : List ℕ) (y u : Yield) → (t ≡ AND → ⊥) → (t ≡ OR → ⊥) → failed ≡ logic_of t a y u
 unfolding logic_of
 logic_none t a y u n₁ n₂ = rw (ne_eqb t AND n₁, ne_eqb t OR n₂)
 
 -- ---- one operand, two operands
 
 module _ (sheet : List ℕ) (t k : ℕ) (a : List ℕ) (n : ℕ) (y : Yield) where
-  pub one_error : y ≡ Error → Gave (one_of sheet t k a n y) a Error
+  pub one_error : (f : EvalError) → y ≡ Err f → (r : Yield) → IsErr r → Gave (one_of sheet t k a n y) a r
   unfolding one_of on_yield
-  one_error e = rw e (record { words = refl; yield = refl })
+  one_error f e r er = rw e (record { words = refl; yield = is_failed r er })
 
-  pub one_path : (v : ℕ) (r q : List ℕ) (g : Given) (a₁ : List ℕ) (u : Yield) → y ≡ Value v → t ≡ HASPATH → r ≡ get_or (rows_of a NODE) n [] → q ≡ part r k (length r) → out_of g ≡ walk_out a q v
+  pub one_path : (v : ℕ) (r q : List ℕ) (g : Given) (a₁ : List ℕ) (u : Yield) → y ≡ Ok v → t ≡ HASPATH → r ≡ get_or (rows_of a NODE) n [] → q ≡ part r k (length r) → out_of g ≡ walk_out a q v
       → Gave (settle_of a (out_of g)) a₁ u → Gave (one_of sheet t k a n y) a₁ u
   unfolding one_of on_yield
   one_path v r q g a₁ u e et er eq eg h =
       let z : out_of g ≡ walk_out a (drop k (node_in a n)) v = eg ∙ ap (λ (x : List ℕ). walk_out a x v) (eq ∙ to_end k r ∙ ap (drop k) er) in
       rw (e, eq-eqb t HASPATH et, ← z) h
 
-  pub one_on : (v : ℕ) (a₁ : List ℕ) (u : Yield) → y ≡ Value v → (t ≡ HASPATH → ⊥) → Gave (settle_of a (one_out sheet t a (node_in a n) v)) a₁ u → Gave (one_of sheet t k a n y) a₁ u
+  pub one_on : (v : ℕ) (a₁ : List ℕ) (u : Yield) → y ≡ Ok v → (t ≡ HASPATH → ⊥) → Gave (settle_of a (one_out sheet t a (node_in a n) v)) a₁ u → Gave (one_of sheet t k a n y) a₁ u
   unfolding one_of on_yield
   one_on v a₁ u e m h = rw (e, ne_eqb t HASPATH m) h
 
 module _ (t : ℕ) (a : List ℕ) (y u : Yield) where
-  pub two_left : y ≡ Error → Gave (two_of t a y u) a Error
+  pub two_left : (f : EvalError) → y ≡ Err f → (r : Yield) → IsErr r → Gave (two_of t a y u) a r
   unfolding two_of on_yield
-  two_left e = rw e (record { words = refl; yield = refl })
+  two_left f e r er = rw e (record { words = refl; yield = is_failed r er })
 
-  pub two_right : (v : ℕ) → y ≡ Value v → u ≡ Error → Gave (two_of t a y u) a Error
+  pub two_right : (v : ℕ) (f : EvalError) → y ≡ Ok v → u ≡ Err f → (r : Yield) → IsErr r → Gave (two_of t a y u) a r
   unfolding two_of on_yield
-  two_right v e k = rw (e, k) (record { words = refl; yield = refl })
+  two_right v f e k r er = rw (e, k) (record { words = refl; yield = is_failed r er })
 
-  pub two_on : (v w : ℕ) (a₁ : List ℕ) (z : Yield) → y ≡ Value v → u ≡ Value w → Gave (settle_of a (two_out t a v w)) a₁ z → Gave (two_of t a y u) a₁ z
+  pub two_on : (v w : ℕ) (a₁ : List ℕ) (z : Yield) → y ≡ Ok v → u ≡ Ok w → Gave (settle_of a (two_out t a v w)) a₁ z → Gave (two_of t a y u) a₁ z
   unfolding two_of on_yield
   two_on v w a₁ z e k h = rw (e, k) h
 
@@ -203,7 +217,7 @@ module _ (sheet : List ℕ) (t k : ℕ) (a : List ℕ) (n : ℕ) (q : List ℕ) 
         unfolding over_of
         over_one a₁ v h g = rw (le-ltb t EQ lo, le-ltb t IF mid, le-ltb t IS high, lt-ltb t SET_OF h, ← ey) g
 
-        pub over_past : SET_OF ≤ t → Gave (over_of sheet t k a n q) a Error
+        pub over_past : SET_OF ≤ t → Gave (over_of sheet t k a n q) a failed
         unfolding over_of
         over_past h = rw (le-ltb t EQ lo, le-ltb t IF mid, le-ltb t IS high, le-ltb t SET_OF h) (record { words = refl; yield = refl })
 
@@ -214,27 +228,27 @@ module _ (a b : List ℕ) (s e : ℕ) (q : List ℕ) (eq : q ≡ part b s e) (c 
   all_here x h = ap all_values (part_of b s e ∙ sym eq) ∙ sym ec ∙ h
 
   module _ (a₁ b₁ : List ℕ) (v : ℕ) (h : c ≡ true) where
-    many_made : (r w : List ℕ) → r ≡ w → MadeBeside a a₁ v e b b₁ w → GaveBeside (many_of a (take e b) (drop s (take e b)) r) a₁ (Value v) e b b₁
+    many_made : (r w : List ℕ) → r ≡ w → MadeBeside a a₁ v e b b₁ w → GaveBeside (many_of a (take e b) (drop s (take e b)) r) a₁ (Ok v) e b b₁
     unfolding many_of made_of
-    many_made r w er m = rw (all_here true h, er) (record { words = m.made.words; yield = ap Value m.made.number; log = m.log })
+    many_made r w er m = rw (all_here true h, er) (record { words = m.made.words; yield = ap Ok m.made.number; log = m.log })
 
-    pub set_made : MadeBeside a a₁ v e b b₁ (set_row (part b s e)) → GaveBeside (set_of a (take e b) s) a₁ (Value v) e b b₁
+    pub set_made : MadeBeside a a₁ v e b b₁ (set_row (part b s e)) → GaveBeside (set_of a (take e b) s) a₁ (Ok v) e b b₁
     unfolding set_of
     set_made m = many_made (set_row (drop s (take e b))) (set_row (part b s e)) (ap set_row (part_of b s e)) m
 
-    pub record_made : (n : ℕ) → MadeBeside a a₁ v e b b₁ (record_row (get_or (rows_of a NODE) n []) (part b s e)) → GaveBeside (record_of a (take e b) s n) a₁ (Value v) e b b₁
+    pub record_made : (n : ℕ) → MadeBeside a a₁ v e b b₁ (record_row (get_or (rows_of a NODE) n []) (part b s e)) → GaveBeside (record_of a (take e b) s n) a₁ (Ok v) e b b₁
     unfolding record_of
     record_made n m = many_made (record_row (node_in a n) (drop s (take e b))) (record_row (get_or (rows_of a NODE) n []) (part b s e)) (ap (record_row (node_in a n)) (part_of b s e)) m
 
-  many_error : c ≡ false → (r : List ℕ) → GaveBeside (many_of a (take e b) (drop s (take e b)) r) a Error e b b
+  many_error : c ≡ false → (r : List ℕ) → GaveBeside (many_of a (take e b) (drop s (take e b)) r) a failed e b b
   unfolding many_of
   many_error h r = rw (all_here false h) (record { words = refl; yield = refl; log = refl })
 
-  pub set_error : c ≡ false → GaveBeside (set_of a (take e b) s) a Error e b b
+  pub set_error : c ≡ false → GaveBeside (set_of a (take e b) s) a failed e b b
   unfolding set_of
   set_error h = many_error h (set_row (drop s (take e b)))
 
-  pub record_error : (n : ℕ) → c ≡ false → GaveBeside (record_of a (take e b) s n) a Error e b b
+  pub record_error : (n : ℕ) → c ≡ false → GaveBeside (record_of a (take e b) s n) a failed e b b
   unfolding record_of
   record_error n h = many_error h (record_row (node_in a n) (drop s (take e b)))
 
@@ -296,41 +310,49 @@ module _ (sheet : List ℕ) (g : ℕ) (ns : List ℕ) (t x w : ℕ) (a b : List 
 
 -- ---- the rows in turn
 
-pub record Turning (sheet : List ℕ) (g : ℕ) (ns residuals a₀ a b : List ℕ) (top i : ℕ) : Type 0 where
-  pub room : Room b top
-  pub near : i ≤ length residuals
-  pub left : ran_of sheet g ns (drop i residuals) a (take top b) ≡ ran_of sheet g ns residuals a₀ []
+module _ (sheet : List ℕ) (g : ℕ) (ns : List ℕ) where
+  -- the same, over the rows
+  abbrev pub ran_rows : List (List ℕ) → List ℕ → List ℕ → Stacked
+  ran_rows [] a l = stacked a l
+  ran_rows (q ∷ s) a l = let t = turn_of sheet g ns (get_or q 0 0) (get_or q 1 0) (get_or q 2 0) a l in ran_rows s t.words t.log
 
-pub run_start : (sheet : List ℕ) (g : ℕ) (ns residuals a b : List ℕ) → 16384 ≤ length b → Turning sheet g ns residuals a a b 0 0
-run_start sheet g ns residuals a b h = record { room = record { low = omega arith; long = h }; near = omega arith; left = refl }
-
-few_rows : (sheet : List ℕ) (g : ℕ) (ns q a l : List ℕ) → length q < 4 → ran_of sheet g ns q a l ≡ stacked a l
-unfolding ran_of
-few_rows sheet g ns [] a l h = refl
-few_rows sheet g ns (t ∷ []) a l h = refl
-few_rows sheet g ns (t ∷ v ∷ []) a l h = refl
-few_rows sheet g ns (t ∷ v ∷ w ∷ []) a l h = refl
-few_rows sheet g ns (t ∷ v ∷ w ∷ y ∷ q) a l h = absurd (omega arith)
-
-module _ (sheet : List ℕ) (g : ℕ) (ns residuals a₀ a b : List ℕ) (top i : ℕ) (k : Turning sheet g ns residuals a₀ a b top i) where
-  pub run_more : (a₁ b₁ : List ℕ) (e : ℕ) → 4 ≤ length residuals - i → length b₁ ≡ length b
-      → Turned (turn_of sheet g ns (get_or residuals i 0) (get_or residuals (i + 1) 0) (get_or residuals (i + 2) 0) a (take top b)) a₁ b₁ e → Turning sheet g ns residuals a₀ a₁ b₁ e (i + 4)
+  pub rows_law : (n : ℕ) (q a l : List ℕ) → n ≡ length q / 4 → ran_rows (first_chunks 4 n q) a l ≡ ran_of sheet g ns q a l
   unfolding ran_of
-  run_more a₁ b₁ e h len t = record {
-    room = record { low = t.log.low; long = omega (arith, len, k.room.long) };
-    near = omega (arith, h, k.near);
-    left =
-        ap₂ (ran_of sheet g ns (drop (i + 4) residuals)) t.words t.log.is
-        ∙ sym (ap (λ (q : List ℕ). ran_of sheet g ns q a (take top b)) (four residuals i (omega (arith, h, k.near)))) ∙ k.left;
-  }
+  rows_law zero [] a l e = refl
+  rows_law (suc n) [] a l e = absurd (omega arith)
+  rows_law zero (t ∷ []) a l e = refl
+  rows_law (suc n) (t ∷ []) a l e = absurd (omega arith)
+  rows_law zero (t ∷ v ∷ []) a l e = refl
+  rows_law (suc n) (t ∷ v ∷ []) a l e = absurd (omega arith)
+  rows_law zero (t ∷ v ∷ w ∷ []) a l e = refl
+  rows_law (suc n) (t ∷ v ∷ w ∷ []) a l e = absurd (omega arith)
+  rows_law zero (t ∷ v ∷ w ∷ y ∷ q) a l e = absurd (omega arith)
+  rows_law (suc n) (t ∷ v ∷ w ∷ y ∷ q) a l e = let s = turn_of sheet g ns t v w a l in rows_law n q s.words s.log (omega arith)
 
-  pub run_end : length residuals - i < 4 → Turned (ran_of sheet g ns residuals a₀ []) a b top
-  run_end h =
-      let e : ran_of sheet g ns residuals a₀ [] ≡ stacked a (take top b) = sym k.left ∙ few_rows sheet g ns (drop i residuals) a (take top b) (omega (arith, h, length-drop i residuals)) in
-      record {
-        words = sym (ap (λ (s : Stacked). s.words) e);
-        log = record { is = sym (ap (λ (s : Stacked). s.log) e); low = k.room.low; grows = omega arith };
-      }
+  pub record Turning (rows : List (List ℕ)) (a₀ a b : List ℕ) (top i : ℕ) : Type 0 where
+    pub room : Room b top
+    pub left : ran_rows (drop i rows) a (take top b) ≡ ran_rows rows a₀ []
+
+  pub run_start : (rows : List (List ℕ)) (a b : List ℕ) → 16384 ≤ length b → Turning rows a a b 0 0
+  run_start rows a b h = record { room = record { low = omega arith; long = h }; left = refl }
+
+  module _ (rows : List (List ℕ)) (a₀ a b : List ℕ) (top i : ℕ) (k : Turning rows a₀ a b top i) where
+    pub run_more : (q a₁ b₁ : List ℕ) (e : ℕ) → i < length rows → q ≡ get_or rows i [] → length b₁ ≡ length b → Turned (turn_of sheet g ns (get_or q 0 0) (get_or q 1 0) (get_or q 2 0) a (take top b)) a₁ b₁ e → Turning rows a₀ a₁ b₁ e (i + 1)
+    run_more q a₁ b₁ e h eq len t = record {
+      room = record { low = t.log.low; long = omega (arith, len, k.room.long) };
+      left =
+          ap₂ (ran_rows (drop (i + 1) rows)) t.words t.log.is
+          ∙ sym (ap (λ (s : List (List ℕ)). ran_rows s a (take top b)) (uncons rows [] i h ∙ ap (λ (p : List ℕ). p ∷ drop (i + 1) rows) (sym eq))) ∙ k.left;
+    }
+
+    pub run_end : length rows ≤ i → (residuals : List ℕ) → rows ≡ first_chunks 4 (length residuals / 4) residuals → Turned (ran_of sheet g ns residuals a₀ []) a b top
+    run_end h residuals e =
+        let z : ran_of sheet g ns residuals a₀ [] ≡ stacked a (take top b)
+        = sym (rows_law (length residuals / 4) residuals a₀ [] refl) ∙ ap (λ (s : List (List ℕ)). ran_rows s a₀ []) (sym e) ∙ sym k.left ∙ ap (λ (s : List (List ℕ)). ran_rows s a (take top b)) (spent rows i h) in
+        record {
+          words = sym (ap (λ (s : Stacked). s.words) z);
+          log = record { is = sym (ap (λ (s : Stacked). s.log) z); low = k.room.low; grows = omega arith };
+        }
 
 -- ---- classes in the place of yields
 
@@ -352,9 +374,6 @@ take_here (suc i) (y ∷ w) x h = let z : suc i + 1 ≡ suc (i + 1) = omega arit
 pub record Classing (a b₀ b : List ℕ) (top i : ℕ) : Type 0 where
   pub room : Room b top
   pub left : take i b ++ classes_in a (drop (4 * i) (take top b)) ≡ classes_in a (take top b₀)
-
-pub classes_start : (a b : List ℕ) (top : ℕ) → Room b top → Classing a b b top 0
-classes_start a b top h = record { room = h; left = refl }
 
 module _ (a b₀ b : List ℕ) (top i most : ℕ) (k : Classing a b₀ b top i) (em : most ≡ top / 4) where
   long : length (take top b) ≡ top
@@ -387,10 +406,10 @@ module _ (a b₀ b : List ℕ) (top i most : ℕ) (k : Classing a b₀ b top i) 
     unfolding yield_in
     yield_here =
         let z : get_or b (4 * i + 0) 0 ≡ get_or b (4 * i) 0 = ap (λ (j : ℕ). get_or b j 0) (omega arith) in
-        ap₂ (λ (x y : ℕ). cond (eqb x VALUE_ROW) (Value y) Error) (word_here 0 (omega arith) ∙ z) (word_here 1 (omega arith))
+        ap₂ (λ (x y : ℕ). cond (eqb x VALUE_ROW) (Ok y) failed) (word_here 0 (omega arith) ∙ z) (word_here 1 (omega arith))
 
-    pub classes_more : (y : Yield) (c : ℕ) → y ≡ yield_in b (4 * i) → c ≡ class_number (class_of a y) → Classing a b₀ (set b i c) top (i + 1)
-    classes_more y c ey ec =
+    pub classes_more : (y : Yield) (h : Class) (c : ℕ) → y ≡ yield_in b (4 * i) → h ≡ class_of a y → c ≡ class_number h → Classing a b₀ (set b i c) top (i + 1)
+    classes_more y h c ey eh ec =
         let f = fits in
         let n : 4 * (i + 1) ≡ 4 * i + 4 = omega arith in
         let after : drop (4 * i + 4) (take top (set b i c)) ≡ drop (4 * i + 4) (take top b) =
@@ -402,7 +421,7 @@ module _ (a b₀ b : List ℕ) (top i most : ℕ) (k : Classing a b₀ b top i) 
               ap (λ (j : ℕ). take (i + 1) (set b i c) ++ classes_in a (drop j (take top (set b i c)))) n
               ∙ ap₂ (λ (p q : List ℕ). p ++ classes_in a q) before after
               ∙ append_assoc (take i b) (c ∷ []) (classes_in a (drop (4 * i + 4) (take top b)))
-              ∙ ap (λ (m : ℕ). take i b ++ (m ∷ classes_in a (drop (4 * i + 4) (take top b)))) (ec ∙ ap (λ (u : Yield). class_number (class_of a u)) (ey ∙ sym yield_here))
+              ∙ ap (λ (m : ℕ). take i b ++ (m ∷ classes_in a (drop (4 * i + 4) (take top b)))) (ec ∙ ap class_number eh ∙ ap (λ (u : Yield). class_number (class_of a u)) (ey ∙ sym yield_here))
               ∙ ap (λ (l : List ℕ). take i b ++ l) (sym rows_here) ∙ k.left;
         }
 

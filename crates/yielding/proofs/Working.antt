@@ -10,6 +10,7 @@ use borrow.Author.Tests.{eqb-true}
 use lib.Dec.{eqb}
 use lib.ListN.{length, get_or, drop}
 use lib.Seq.{drop-drop, get_or-drop}
+use Rattle.std.specs.Prelude.{Ok, Err}
 use Rattle.cedar.proofs.Tools.{no_true}
 use Rattle.cedar.specs.Types.{Ty, tbool, Schema}
 use Rattle.cedar.specs.Value.{Value as Content, Fields, fnil, fcons, vrec, Result, ok, fail, bind, on_some}
@@ -42,9 +43,7 @@ use Rattle.tpe.proofs.Sets.{sort_short, drop_two}
 use Rattle.lookup.specs.Lookups.{env_by}
 use Rattle.tpe.proofs.Stands.{Hold, schema_is, env_is, env_at}
 use Rattle.tpe.proofs.Reach.{reach}
-use Rattle.evaluator.specs.Run.{E, yields, values, node_in, settle_of, opt_of, on_yield, path_out, un_out, bin_out, rel_out, get_out, has_out, walk_out, two_out, one_out, schema_of, env_of}
-use Rattle.evaluator.specs.declared.Yield.{Yield}
-use Rattle.evaluator.specs.declared.Yield.TheVariants.{Value, Error}
+use Rattle.evaluator.specs.Run.{Yield, E, yields, values, node_in, settle_of, opt_of, on_yield, path_out, un_out, bin_out, rel_out, get_out, has_out, walk_out, two_out, one_out, schema_of, env_of}
 use Rattle.evaluator.proofs.Gives.{Says, says_value, says_error, Stand, rel_gives, get_gives, has_gives, path_gives, fine_path}
 use Rattle.evaluator.proofs.Steps.{sch, same_node}
 use Rattle.evaluator.proofs.Many.{Oks, oks_none, oks_more, Bad, bad_here, bad_later, results_of, results_args, set_oks, set_bad, rec_bad}
@@ -64,8 +63,8 @@ yield_rows [] = []
 yield_rows (p ∷ ps) = yield_row p.yield p.words ++ yield_rows ps
 
 pub row_four : (y : Yield) (w : ℕ) (q : List ℕ) → length (yield_row y w ++ q) ≡ 4 + length q
-row_four (Value v) w q = omega arith
-row_four Error w q = omega arith
+row_four (Ok v) w q = omega arith
+row_four (Err e) w q = omega arith
 
 pub rows_long : (ps : List Slot) → length (yield_rows ps) ≡ 4 * length ps
 unfolding yield_rows
@@ -74,18 +73,18 @@ rows_long (p ∷ ps) = let a = row_four p.yield p.words (yield_rows ps) in let b
 
 yield_here : (y : Yield) (w : ℕ) (q : List ℕ) → yield_in (yield_row y w ++ q) 0 ≡ y
 unfolding yield_in
-yield_here (Value v) w q = refl
-yield_here Error w q = refl
+yield_here (Ok v) w q = refl
+yield_here (Err e) w q = refl
 
 yield_next : (y : Yield) (w : ℕ) (q : List ℕ) → yield_in (yield_row y w ++ q) 4 ≡ yield_in q 0
 unfolding yield_in
-yield_next (Value v) w q = refl
-yield_next Error w q = refl
+yield_next (Ok v) w q = refl
+yield_next (Err e) w q = refl
 
 yield_later : (y : Yield) (w : ℕ) (q : List ℕ) → yield_in (yield_row y w ++ q) 8 ≡ yield_in q 4
 unfolding yield_in
-yield_later (Value v) w q = refl
-yield_later Error w q = refl
+yield_later (Ok v) w q = refl
+yield_later (Err e) w q = refl
 
 abbrev pub takes_sum : List (Node ℕ) → ℕ
 takes_sum [] = 0
@@ -254,9 +253,9 @@ module _ (sheet a₀ : List ℕ) (G : Env) where
 
     kinds_more : {C : List Content} {q : List ℕ} {m : ℕ} {x : Result} {rs : List Result} (y : Yield) (w : ℕ) → Says C y x → Kinds C q m rs → Kinds C (yield_row y w ++ q) (suc m) (x ∷ rs)
     unfolding all_values values_in
-    kinds_more (Value v) w (says_value h) (all_values_law {ns = ns} e f b c) = all_values_law {ns = v ∷ ns} e (ap (λ (l : List ℕ). v ∷ l) f) (oks_more refl h b) (ap suc c)
-    kinds_more (Value v) w (says_value h) (one_error e b) = one_error e (bad_later refl b)
-    kinds_more Error w says_error k = one_error refl (bad_here refl)
+    kinds_more (Ok v) w (says_value h) (all_values_law {ns = ns} e f b c) = all_values_law {ns = v ∷ ns} e (ap (λ (l : List ℕ). v ∷ l) f) (oks_more refl h b) (ap suc c)
+    kinds_more (Ok v) w (says_value h) (one_error e b) = one_error e (bad_later refl b)
+    kinds_more (Err e) w says_error k = one_error refl (bad_here refl)
 
     kinds : {C : List Content} {ps : List Slot} {rs : List Result} → Say C ps rs → Kinds C (yield_rows ps) (length ps) rs
     unfolding yield_rows all_values values_in

@@ -1,6 +1,6 @@
 -- What residuals yield over the words a, which hold a complete sheet and the values, by a stack of yields: the log l. Each definition is
 -- total; rows are read where they are needed, from the words as they then are. That this is `eval` of the residuals is shown in proofs/.
-use Rattle.std.specs.Prelude.{◌≡◌, Bool, true, false, cond, List, [], ◌∷◌, ℕ, zero, suc, ◌+◌, ◌-◌, ◌*◌, ◌/◌, ◌≤◌, eqb, ltb, length, get_or, take, drop}
+use Rattle.std.specs.Prelude.{Ok, Err, ◌≡◌, Bool, true, false, cond, List, [], ◌∷◌, ℕ, zero, suc, ◌+◌, ◌-◌, ◌*◌, ◌/◌, ◌≤◌, eqb, ltb, length, get_or, take, drop}
 use Rattle.std.proofs.Math.Option.{Option, none, some}
 use Rattle.words.specs.Log.{appended, Holds}
 use Rattle.sheet.specs.Forms.{tag, at, VALUE}
@@ -10,22 +10,20 @@ use Rattle.value.specs.Made.{set_row, record_row, written}
 use Rattle.residual.specs.Rows.{ROW, SOURCE, ROW_TYPE, VALUE_ROW, ERROR_ROW, LEFT_ROW, lit_row, err_row}
 use Rattle.residual.specs.Classes.{class_number}
 use Rattle.valued.specs.Values.{all_values}
-use Rattle.evaluator.specs.Run.{E, yields, node_in, made_of, settle_of, opt_of, on_yield, bool_only, walk_out, two_out, one_out, env_of, class_of, Ran}
+use Rattle.evaluator.specs.Run.{Yield, failed, E, yields, node_in, made_of, settle_of, opt_of, on_yield, bool_only, walk_out, two_out, one_out, env_of, class_of, Ran}
 use Rattle.evaluator.specs.Gave.{yield_bool, same_bool}
-use Rattle.evaluator.specs.declared.Yield.{Yield}
-use Rattle.evaluator.specs.declared.Yield.TheVariants.{Value, Error}
 use Rattle.carried.specs.Carry.{number_there, carried_of}
 
 -- ---- the stack
 
 -- what a row yields, where it is w words of a residual that yielded it
 abbrev pub yield_row : Yield → ℕ → List ℕ
-yield_row (Value v) w = lit_row v w
-yield_row Error w = err_row w
+yield_row (Ok v) w = lit_row v w
+yield_row (Err e) w = err_row w
 
 -- what the row at place i of these words yields
 unfoldable pub yield_in : List ℕ → ℕ → Yield
-yield_in q i = cond (eqb (get_or q i 0) VALUE_ROW) (Value (get_or q (i + SOURCE) 0)) Error
+yield_in q i = cond (eqb (get_or q i 0) VALUE_ROW) (Ok (get_or q (i + SOURCE) 0)) failed
 
 -- of n rows, how many are left below those whose residuals have m words together
 unfoldable pub rows_back : List ℕ → ℕ → ℕ → ℕ
@@ -45,7 +43,7 @@ pub record Started (l : List ℕ) (m s : ℕ) : Type 0 where
 
 -- z is the bool that decides: a left side that is it is the answer
 unfoldable pub lazy_by : Bool → List ℕ → Yield → Yield → Option Bool → Yield
-lazy_by z a y u none = Error
+lazy_by z a y u none = failed
 lazy_by z a y u (some x) = cond (same_bool x z) y (bool_only (yields a u)).yield
 
 unfoldable pub lazy_of : Bool → List ℕ → Yield → Yield → Yield
@@ -53,10 +51,10 @@ lazy_of z a y u = lazy_by z a y u (yield_bool a y)
 
 -- by the tag
 unfoldable pub logic_of : ℕ → List ℕ → Yield → Yield → Yield
-logic_of t a y u = cond (eqb t AND) (lazy_of false a y u) (cond (eqb t OR) (lazy_of true a y u) Error)
+logic_of t a y u = cond (eqb t AND) (lazy_of false a y u) (cond (eqb t OR) (lazy_of true a y u) failed)
 
 unfoldable pub branch_by : Yield → Yield → Option Bool → Yield
-branch_by u w none = Error
+branch_by u w none = failed
 branch_by u w (some x) = cond x u w
 
 unfoldable pub branch_of : List ℕ → Yield → Yield → Yield → Yield
@@ -75,11 +73,11 @@ over_of sheet t k a n q =
     cond (ltb t EQ) (yields a (logic_of t a (yield_in q 0) (yield_in q ROW)))
     (cond (ltb t IF) (two_of t a (yield_in q 0) (yield_in q ROW))
     (cond (ltb t IS) (yields a (branch_of a (yield_in q 0) (yield_in q ROW) (yield_in q (ROW + ROW))))
-    (cond (ltb t SET_OF) (one_of sheet t k a n (yield_in q 0)) (yields a Error))))
+    (cond (ltb t SET_OF) (one_of sheet t k a n (yield_in q 0)) (yields a failed))))
 
 -- sets and records are made where the operands, the rows from s on, are all values
 unfoldable pub many_of : List ℕ → List ℕ → List ℕ → List ℕ → E
-many_of a l q r = cond (all_values q) (made_of a (written l r)) (yields a Error)
+many_of a l q r = cond (all_values q) (made_of a (written l r)) (yields a failed)
 
 unfoldable pub set_of : List ℕ → List ℕ → ℕ → E
 set_of a l s = many_of a l (drop s l) (set_row (drop s l))

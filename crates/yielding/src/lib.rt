@@ -3,21 +3,21 @@
 // A yield on the stack is a row of a value or of an error; its last word says how many words its residual has.
 #![tactic(auto)]
 
-ghost use Rattle.std.specs.Prelude.{◌≡◌, [], ◌+◌, ◌-◌, ◌*◌, ◌/◌, ◌≤◌, ◌<◌, take, length};
+ghost use Rattle.std.specs.Prelude.{◌≡◌, [], ◌+◌, ◌-◌, ◌*◌, ◌/◌, ◌≤◌, ◌<◌, get_or, take, length};
 ghost use Rattle.words.specs.Log.{Room, Holds, Appended};
 ghost use Rattle.sheet.specs.Forms.{VALUE};
 ghost use Rattle.forms.specs.Tags.{EQ, IF, IS, SET_OF};
 ghost use Rattle.evaluator.specs.Gave.{Gave, GaveBeside, Done};
 ghost use Rattle.yielding.specs.Yields.{yield_in, yield_row, Started, lazy_of, logic_of, branch_of, one_of, two_of, set_of, record_of, over_of, node_of, turn_of, ran_of, Turned, classes_in, yielded_of};
 
-use carried::{carry, number_there};
+use carried::{Numbers, carry};
 use evaluator::operands::{path_at, word_of};
 use evaluator::{
-    Truth, Yield, apply_one, apply_two, class_of, only_bool, request, same, settle, truth_of,
+    EvalError, Yield, apply_one, apply_two, class_of, only_bool, request, settle, truth_of,
 };
 use forms::{AND, EQ, HASPATH, IF, IS, NODE, OR, RECORD_OF, SET_OF, VALUE, VAR};
 use residual::{
-    ERROR_ROW, LEFT_ROW, ROW, ROW_TYPE, SOURCE, VALUE_ROW, WORDS, push_error, push_value,
+    ERROR_ROW, LEFT_ROW, ROW, ROW_TYPE, SOURCE, VALUE_ROW, WHAT, WORDS, push_error, push_value,
 };
 use table::{count, row, tag};
 use value::making::{make_record, make_set};
@@ -33,9 +33,9 @@ fn yield_in(words: &[u32], at: usize) -> Yield
     ensures { result ≡ yield_in words.now at }
 {
     if read(words, at) == VALUE_ROW {
-        return Yield::Value(read(words, at + SOURCE));
+        return Ok(read(words, at + SOURCE));
     }
-    Yield::Error
+    Err(EvalError)
 }
 
 // A yield at the end of the stack, of a residual of so many words.
@@ -43,47 +43,31 @@ fn push_yield(log: &mut [u32], top: usize, yielded: Yield, words: u32) -> usize
     ensures { Appended log.old top (yield_row yielded words) log.new result }
 {
     match yielded {
-        Yield::Value(value) => push_value(log, top, value, words),
-        Yield::Error => push_error(log, top, words),
+        Ok(value) => push_value(log, top, value, words),
+        Err(_) => push_error(log, top, words),
     }
-}
-
-// What is left of `words` where `taken` of them are gone.
-fn less(words: u32, taken: u32) -> u32
-    ensures { result ≡ words - taken }
-{
-    if words < taken {
-        return 0;
-    }
-    words - taken
 }
 
 // Where the rows of the stack begin whose residuals have so many words together.
 fn start_in(stack: &[u32], words: u32) -> usize
     ensures { Started stack.now words result }
 {
-    let mut n = stack.len() / ROW;
     let mut left = words;
-    loop {
-        if n == 0 {
-            break 0;
-        }
+    for n in (0..stack.len() / ROW).rev() {
         if left == 0 {
-            break ROW * n;
+            return ROW * (n + 1);
         }
-        n -= 1;
-        left = less(left, read(stack, ROW * n + ROW_TYPE));
+        left = left.saturating_sub(stack[ROW * n + ROW_TYPE]);
     }
+    0
 }
 
 // `and` or `or` over its yields: `stop` is the bool that decides.
 fn lazy(rows: &[u32], left: Yield, right: Yield, stop: bool) -> Yield
     ensures { result ≡ lazy_of stop rows.now left right }
 {
-    let Truth::Is(x) = truth_of(rows, left) else {
-        return Yield::Error;
-    };
-    if same(x, stop) {
+    let x = truth_of(rows, left).ok_or(EvalError)?;
+    if x == stop {
         return left;
     }
     only_bool(rows, right)
@@ -93,13 +77,8 @@ fn lazy(rows: &[u32], left: Yield, right: Yield, stop: bool) -> Yield
 fn branch(rows: &[u32], test: Yield, then: Yield, other: Yield) -> Yield
     ensures { result ≡ branch_of rows.now test then other }
 {
-    let Truth::Is(x) = truth_of(rows, test) else {
-        return Yield::Error;
-    };
-    if x {
-        return then;
-    }
-    other
+    let x = truth_of(rows, test).ok_or(EvalError)?;
+    if x { then } else { other }
 }
 
 // An operation with one operand; of a `haspath` so many steps are taken.
@@ -107,9 +86,7 @@ fn one(sheet: &[u8], rows: &mut [u32], node: u32, tag: u32, steps: u32, operand:
     requires { (IS ≤ tag) × (tag < SET_OF) }
     ensures { Gave (one_of sheet.now tag steps rows.old node operand) rows.new result }
 {
-    let Yield::Value(value) = operand else {
-        return Yield::Error;
-    };
+    let value = operand?;
     if tag == HASPATH {
         let line = row(rows, NODE, node);
         let given = path_at(rows, cut(line, steps as usize, line.len()), value);
@@ -123,23 +100,20 @@ fn two(rows: &mut [u32], tag: u32, left: Yield, right: Yield) -> Yield
     requires { (EQ ≤ tag) × (tag < IF) }
     ensures { Gave (two_of tag rows.old left right) rows.new result }
 {
-    let Yield::Value(first) = left else {
-        return Yield::Error;
-    };
-    let Yield::Value(second) = right else {
-        return Yield::Error;
-    };
+    let first = left?;
+    let second = right?;
     apply_two(FIRST, rows, tag, first, second)
 }
 
 // `and` and `or`, by the tag.
+// kept: the tag is a word of the sheet, and each arm does another thing with the same operands, so that closures would be no plainer.
 fn logic(rows: &[u32], tag: u32, left: Yield, right: Yield) -> Yield
     ensures { result ≡ logic_of tag rows.now left right }
 {
     match tag {
         AND => lazy(rows, left, right, false),
         OR => lazy(rows, left, right, true),
-        _ => Yield::Error,
+        _ => Err(EvalError),
     }
 }
 
@@ -161,7 +135,7 @@ fn over(sheet: &[u8], rows: &mut [u32], node: u32, tag: u32, steps: u32, operand
     if tag < SET_OF {
         return one(sheet, rows, node, tag, steps, left);
     }
-    Yield::Error
+    Err(EvalError)
 }
 
 // A set of the values of the rows from `start` to the end of the stack.
@@ -170,9 +144,9 @@ fn set(rows: &mut [u32], log: &mut [u32], start: usize, top: usize) -> Yield
     ensures { GaveBeside (set_of rows.old (take top log.old) start) rows.new result top log.old log.new }
 {
     if all_values(cut(log, start, top)) {
-        return Yield::Value(make_set(rows, log, start, top));
+        return Ok(make_set(rows, log, start, top));
     }
-    Yield::Error
+    Err(EvalError)
 }
 
 // A record likewise, with the texts of the node.
@@ -182,9 +156,9 @@ fn record(rows: &mut [u32], log: &mut [u32], start: usize, top: usize, node: u32
     ensures { GaveBeside (record_of rows.old (take top log.old) start node) rows.new result top log.old log.new }
 {
     if all_values(cut(log, start, top)) {
-        return Yield::Value(make_record(rows, log, start, top, node));
+        return Ok(make_record(rows, log, start, top, node));
     }
-    Yield::Error
+    Err(EvalError)
 }
 
 // The node over the rows of its operands, from `start` to the end of the stack; of a `haspath` so many steps are taken.
@@ -210,26 +184,26 @@ fn left(
     }
 }
 
-// One row of the residuals: what it is, its source, and the words of its residual. The end of the stack after it.
+// One row of the residuals. The end of the stack after it.
+// kept: the log and the end of its stack are two parameters, since a row's operands are cut off at an earlier end while the run holds the whole.
 fn turn(
     sheet: &[u8],
-    given: u32,
-    numbers: &[u32],
+    numbers: &Numbers,
     rows: &mut [u32],
     log: &mut [u32],
     top: usize,
-    what: u32,
-    source: u32,
-    words: u32,
+    row: &[u32; ROW],
 ) -> usize
     requires { Room log.old top }
-    ensures { Turned (turn_of sheet.now given numbers.now what source words rows.old (take top log.old)) rows.new log.new result }
+    ensures { Turned (turn_of sheet.now numbers.now.given numbers.now.noted.now (get_or row.now WHAT 0) (get_or row.now SOURCE 0) (get_or row.now WORDS 0) rows.old (take top log.old)) rows.new log.new result }
 {
-    match what {
-        VALUE_ROW => push_value(log, top, number_there(given, numbers, source), words),
+    let source = row[SOURCE];
+    let words = row[WORDS];
+    match row[WHAT] {
+        VALUE_ROW => push_value(log, top, numbers.there(source), words),
         ERROR_ROW => push_error(log, top, words),
-        _ => {
-            let start = start_in(cut(log, 0, top), less(words, ROW as u32));
+        what => {
+            let start = start_in(cut(log, 0, top), words.saturating_sub(ROW as u32));
             let yielded = left(sheet, rows, log, start, top, source, what - LEFT_ROW);
             push_yield(log, start, yielded, words)
         }
@@ -240,43 +214,30 @@ fn turn(
 pub fn run(
     sheet: &[u8],
     residuals: &[u32],
-    given: u32,
-    numbers: &[u32],
+    numbers: &Numbers,
     rows: &mut [u32],
     log: &mut [u32],
 ) -> usize
     requires { 16384 ≤ length log.old }
-    ensures { Turned (ran_of sheet.now given numbers.now residuals.now rows.old []) rows.new log.new result }
+    ensures { Turned (ran_of sheet.now numbers.now.given numbers.now.noted.now residuals.now rows.old []) rows.new log.new result }
 {
-    let mut top: usize = 0;
-    let mut i: usize = 0;
-    while residuals.len() - i >= ROW {
-        top = turn(
-            sheet,
-            given,
-            numbers,
-            rows,
-            log,
-            top,
-            residuals[i],
-            residuals[i + SOURCE],
-            residuals[i + WORDS],
-        );
-        i += ROW;
+    let (lines, _) = residuals.as_chunks::<ROW>();
+    let mut top = 0;
+    for row in lines {
+        top = turn(sheet, numbers, rows, log, top, row);
     }
     top
 }
 
 // The numbers of the classes of the yields on the stack, in its place; how many there are.
+// kept: the rows are read by their places, since the same words are written while they are read.
 fn classes(rows: &[u32], log: &mut [u32], top: usize) -> usize
     requires { Room log.old top }
     ensures { Holds 0 log.new result (classes_in rows.now (take top log.old)) }
 {
     let most = top / ROW;
-    let mut i: usize = 0;
-    while i < most {
-        log[i] = class_of(rows, yield_in(log, ROW * i));
-        i += 1;
+    for i in 0..most {
+        log[i] = class_of(rows, yield_in(log, ROW * i)).into();
     }
     most
 }
@@ -295,6 +256,10 @@ pub fn yielded(
     ensures { Done (yielded_of sheet.now residuals.now kept.now rows.old numbers.old) rows.new log.new result }
 {
     carry(kept, rows, log, numbers);
-    let top = run(sheet, residuals, count(kept, VALUE), numbers, rows, log);
+    let there = Numbers {
+        given: count(kept, VALUE),
+        noted: numbers,
+    };
+    let top = run(sheet, residuals, &there, rows, log);
     classes(rows, log, top)
 }

@@ -1,5 +1,4 @@
 -- `above::any_value` meets its contract. Assumes nothing.
-use Prim.Native.Nat.{◌-◌}
 use mathlib.Core.Path.{◌≡◌}
 use lib.ListN.{length}
 use Rattle.reach.proofs.Steps.{Asking}
@@ -9,7 +8,4 @@ use Rattle.above.specs.Fitting.{unfit_value}
 use Rattle.above.proofs.any_value.Given as goal
 
 abbrev pub invariant-loop-i : goal.invariant-loop-i
-invariant-loop-i l = Asking (unfit_value l.rows l.kind) l.met (length l.met) l.n l.i × Each l.above (is_above_at l.rows l.kind) × (length l.above ≡ KIND_WORDS)
-
-abbrev pub decreases-loop-i : goal.decreases-loop-i
-decreases-loop-i l = l.n - l.i
+invariant-loop-i l = Asking (unfit_value l.rows l.kind) l.met (length l.met) l.i-end l.i × Each l.above (is_above_at l.rows l.kind) × (length l.above ≡ KIND_WORDS)

@@ -1,6 +1,6 @@
 -- `above::first_unfit` meets its contract. Assumes nothing.
 use Rattle.reach.specs.Marks.{LINES}
-use Rattle.above.proofs.Fits.{blank, firsts_end, firsts_hit, firsts_none, firsts_on, firsts_start, none_fit}
+use Rattle.above.proofs.Fits.{blank, firsts_end, firsts_hit, firsts_none, firsts_on, none_fit}
 use borrow.Author.Rules.{rules}
 use Rattle.above.proofs.first_unfit.Goals as goal
 
@@ -9,9 +9,6 @@ returns-then-n-eq0 c = search (firsts_none, rules)
 
 pub ask_last-requires : goal.ask_last-requires
 ask_last-requires c = none_fit _ _ (blank LINES)
-
-pub loop-i-init : goal.loop-i-init
-loop-i-init c = search (firsts_start, rules)
 
 pub returns-then-not-reached_fit : goal.returns-then-not-reached_fit
 returns-then-not-reached_fit c = search (firsts_hit, rules)

@@ -1,10 +1,6 @@
 -- `above::first_unfit` meets its contract. Assumes nothing.
-use Prim.Native.Nat.{◌-◌}
 use Rattle.above.proofs.Fits.{Firsts}
 use Rattle.above.proofs.first_unfit.Given as goal
 
 abbrev pub invariant-loop-i : goal.invariant-loop-i
 invariant-loop-i l = Firsts l.rows l.n l.fit l.i
-
-abbrev pub decreases-loop-i : goal.decreases-loop-i
-decreases-loop-i l = l.n - l.i

@@ -1,10 +1,6 @@
 -- `above::pass` meets its contract. Assumes nothing.
-use Prim.Native.Nat.{◌-◌}
 use Rattle.above.proofs.Fits.{Passing}
 use Rattle.above.proofs.pass.Given as goal
 
 abbrev pub invariant-loop-i : goal.invariant-loop-i
-invariant-loop-i l = Passing l.rows l.kind l.marks l.initial.fit l.fit l.n l.i
-
-abbrev pub decreases-loop-i : goal.decreases-loop-i
-decreases-loop-i l = l.n - l.i
+invariant-loop-i l = Passing l.rows l.kind l.marks l.initial.fit l.fit l.i-end l.i

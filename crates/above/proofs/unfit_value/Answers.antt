@@ -4,8 +4,8 @@ use Rattle.above.proofs.Fits.{value_some}
 use borrow.Author.Rules.{rules}
 use Rattle.above.proofs.unfit_value.Goals as goal
 
-pub returns-then-byte-eq0 : goal.returns-then-byte-eq0
-returns-then-byte-eq0 c = search (mark_none, rules)
+pub returns-then-item_or-eq0 : goal.returns-then-item_or-eq0
+returns-then-item_or-eq0 c = search (mark_none, rules)
 
 pub returns : goal.returns
 returns c = search (value_some, rules)

@@ -1,5 +1,5 @@
 -- `agree::any_unlisted` meets its contract. Assumes nothing.
-use Rattle.agree.proofs.Merging.{list_start, list_off, list_on, list_end}
+use Rattle.agree.proofs.Merging.{list_start, list_off, list_on}
 use borrow.Author.Rules.{rules}
 use Rattle.agree.proofs.any_unlisted.Goals as goal
 
@@ -11,6 +11,3 @@ returns-then-not-is_line_of c = search (list_off, rules)
 
 pub loop-i-preserved : goal.loop-i-preserved
 loop-i-preserved c = search (list_on, rules)
-
-pub returns : goal.returns
-returns c = search (list_end, rules)

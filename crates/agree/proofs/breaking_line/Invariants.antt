@@ -1,11 +1,6 @@
 -- `agree::breaking_line` meets its contract. Assumes nothing.
-use Prim.Native.Nat.{◌-◌}
-use Rattle.sheet.specs.Forms.{no_key}
 use Rattle.agree.proofs.Keys.{Passing}
 use Rattle.agree.proofs.breaking_line.Given as goal
 
 abbrev pub invariant-loop-key : goal.invariant-loop-key
 invariant-loop-key l = Passing l.partial l.rows l.complete l.others l.key l.before
-
-abbrev pub decreases-loop-key : goal.decreases-loop-key
-decreases-loop-key l = no_key - l.key

@@ -1,5 +1,5 @@
 -- `agree::entity_break` meets its contract. Assumes nothing.
-use Rattle.agree.proofs.Merging.{break_start, break_off, break_on, break_end}
+use Rattle.agree.proofs.Merging.{break_start, break_off, break_on}
 use borrow.Author.Rules.{rules}
 use Rattle.agree.proofs.entity_break.Goals as goal
 
@@ -11,6 +11,3 @@ returns-then-not-line_agrees c = search (break_off, rules)
 
 pub loop-i-preserved : goal.loop-i-preserved
 loop-i-preserved c = search (break_on, rules)
-
-pub returns : goal.returns
-returns c = search (break_end, rules)

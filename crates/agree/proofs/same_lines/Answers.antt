@@ -1,10 +1,7 @@
 -- `agree::same_lines` meets its contract. Assumes nothing.
-use Rattle.agree.proofs.Alike.{match_start, match_short, match_off, match_on, match_end}
+use Rattle.agree.proofs.Alike.{match_short, match_off, match_on, match_end}
 use borrow.Author.Rules.{rules}
 use Rattle.agree.proofs.same_lines.Goals as goal
-
-pub loop-i-init : goal.loop-i-init
-loop-i-init c = search (match_start, rules)
 
 pub returns-then-i-m : goal.returns-then-i-m
 returns-then-i-m c = search (match_short, rules)

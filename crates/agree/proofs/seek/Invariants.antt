@@ -1,5 +1,4 @@
 -- `agree::seek` meets its contract. Assumes nothing.
-use Prim.Native.Nat.{◌-◌}
 use Rattle.sheet.specs.Forms.{ENTITY}
 use Rattle.table.specs.Layout.{rows_of}
 use Rattle.agree.proofs.Merging.{Seeking}
@@ -7,6 +6,3 @@ use Rattle.agree.proofs.seek.Given as goal
 
 abbrev pub invariant-loop-i : goal.invariant-loop-i
 invariant-loop-i l = Seeking l.value (rows_of l.rows ENTITY) l.from l.n l.i
-
-abbrev pub decreases-loop-i : goal.decreases-loop-i
-decreases-loop-i l = l.n - l.i

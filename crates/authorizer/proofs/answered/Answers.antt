@@ -3,8 +3,8 @@ use Rattle.authorizer.proofs.Answering.{refused, partial_when, complete_when}
 use borrow.Author.Rules.{rules}
 use Rattle.authorizer.proofs.answered.Goals as goal
 
-pub returns-then-number-ne0 : goal.returns-then-number-ne0
-returns-then-number-ne0 c = search (refused, rules)
+pub returns-in-Err : goal.returns-in-Err
+returns-in-Err c = search (refused, rules)
 
 pub returns-then-partial : goal.returns-then-partial
 returns-then-partial c = search (partial_when, rules)

@@ -1,16 +1,17 @@
 -- `checks::new_depth` meets its contract. Assumes nothing.
+use Rattle.std.proofs.Common.{sym, ◌∙◌}
 use Rattle.checks.proofs.FoundLaws.{new_absent, new_falls, new_again, new_deep}
-use borrow.Author.Rules.{rules}
 use Rattle.checks.proofs.new_depth.Goals as goal
 
-pub returns-then-d-eq0 : goal.returns-then-d-eq0
-returns-then-d-eq0 c = search (new_absent, rules)
+pub returns-in_err-depth : goal.returns-in_err-depth
+returns-in_err-depth c = rw c.from_residual.ensures (new_absent _ _ _ _ c.in_err-depth.ensures)
 
 pub returns-then-not-ascends : goal.returns-then-not-ascends
-returns-then-not-ascends c = search (new_falls, rules)
+returns-then-not-ascends c = new_falls _ _ _ _ _ c.in_ok-depth.ensures (sym c.ascends.ensures ∙ c.if-not-ascends.true)
 
 pub returns-then-not-is_fresh : goal.returns-then-not-is_fresh
-returns-then-not-is_fresh c = search (new_again, rules)
+returns-then-not-is_fresh c =
+    new_again _ _ _ _ _ c.in_ok-depth.ensures (sym c.ascends.ensures ∙ c.if-not-ascends.false) (sym c.is_fresh.ensures ∙ c.if-not-is_fresh.true)
 
 pub returns : goal.returns
-returns c = search (new_deep, rules)
+returns c = new_deep _ _ _ _ _ c.in_ok-depth.ensures (sym c.ascends.ensures ∙ c.if-not-ascends.false) (sym c.is_fresh.ensures ∙ c.if-not-is_fresh.false)

@@ -12,21 +12,11 @@ returns-then-bytes-ne45 c = search (no_dash, rules)
 pub returns-then-bytes-ne45-2 : goal.returns-then-bytes-ne45-2
 returns-then-bytes-ne45-2 c = search (no_second, rules)
 
+pub returns-in_err-n : goal.returns-in_err-n
+returns-in_err-n c = rw c.from_residual.ensures (no_digits c.args.bytes.now c.if-bytes-ne10.false c.if-bytes-ne45.false c.if-bytes-ne45-2.false c.in_err-n.ensures)
+
 pub returns-then-is_date : goal.returns-then-is_date
-returns-then-is_date c = let d = c in
-    let i = c.is_date in
-    let three = d in
-    let one = three in
-    a_date one.args.bytes.now one.if-bytes-ne10.false three.if-bytes-ne45.false three.if-bytes-ne45-2.false d.digits-r.result d.digits-r.ensures _ (search rules) i.result i.ensures c.if-is_date.true
+returns-then-is_date c = a_date c.args.bytes.now c.if-bytes-ne10.false c.if-bytes-ne45.false c.if-bytes-ne45-2.false c.in_ok-n.n c.in_ok-n.ensures c.is_date.result c.is_date.ensures c.if-is_date.true
 
-pub returns-else-is_date : goal.returns-else-is_date
-returns-else-is_date c = let d = c in
-    let three = d in
-    let one = three in
-    search (no_date one.args.bytes.now one.if-bytes-ne10.false three.if-bytes-ne45.false three.if-bytes-ne45-2.false d.digits-r.result d.digits-r.ensures, rules)
-
-pub returns-in-Refused : goal.returns-in-Refused
-returns-in-Refused c = let d = c in
-    let three = d in
-    let one = three in
-    no_digits one.args.bytes.now one.if-bytes-ne10.false three.if-bytes-ne45.false three.if-bytes-ne45-2.false d.digits-r.result d.digits-r.ensures (search rules)
+pub returns : goal.returns
+returns c = no_date c.args.bytes.now c.if-bytes-ne10.false c.if-bytes-ne45.false c.if-bytes-ne45-2.false c.in_ok-n.n c.in_ok-n.ensures c.is_date.result c.is_date.ensures c.if-is_date.false

@@ -6,11 +6,11 @@ use Rattle.depths.proofs.is_there.Goals as goal
 pub returns-then-slot-lt-LINE : goal.returns-then-slot-lt-LINE
 returns-then-slot-lt-LINE c = search (ref_none, rules)
 
-pub returns-then-x-n : goal.returns-then-x-n
-returns-then-x-n c = search (ref_in, rules)
+pub returns-then-x-count : goal.returns-then-x-count
+returns-then-x-count c = search (ref_in, rules)
 
-pub returns-then-slot-lt-UNKNOWN : goal.returns-then-slot-lt-UNKNOWN
-returns-then-slot-lt-UNKNOWN c = search (ref_out, rules)
+pub returns-then-slot-ge-UNKNOWN : goal.returns-then-slot-ge-UNKNOWN
+returns-then-slot-ge-UNKNOWN c = search (ref_mark, rules)
 
-pub returns : goal.returns
-returns c = search (ref_mark, rules)
+pub returns-else-slot-ge-UNKNOWN : goal.returns-else-slot-ge-UNKNOWN
+returns-else-slot-ge-UNKNOWN c = search (ref_out, rules)

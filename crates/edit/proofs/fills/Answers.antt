@@ -1,10 +1,10 @@
 -- `edit::fills` meets its contract. Assumes nothing.
-use Rattle.edit.proofs.Filling.{fills_two_lines, fills_old, fills_new, fills_so}
 use borrow.Author.Rules.{rules}
+use Rattle.edit.proofs.Filling.{fills_two_lines, fills_old, fills_new, fills_so}
 use Rattle.edit.proofs.fills.Goals as goal
 
-pub returns-then-find-new : goal.returns-then-find-new
-returns-then-find-new c = search (fills_two_lines, rules)
+pub returns-then-contains : goal.returns-then-contains
+returns-then-contains c = fills_two_lines c.args.old.now c.args.new.now _ c.contains.ensures.value c.if-contains.true
 
 pub returns-then-not-may_fill : goal.returns-then-not-may_fill
 returns-then-not-may_fill c = search (fills_old, rules)

@@ -1,10 +1,7 @@
 -- `edit::items_filled` meets its contract. Assumes nothing.
-use Rattle.edit.proofs.Filling.{filling_start, filling_other, filling_end, filling_more, filling_on}
+use Rattle.edit.proofs.Filling.{filling_other, filling_end, filling_more, filling_on}
 use borrow.Author.Rules.{rules}
 use Rattle.edit.proofs.items_filled.Goals as goal
-
-pub loop-i-init : goal.loop-i-init
-loop-i-init c = search (filling_start, rules)
 
 pub returns-then-not-may_become : goal.returns-then-not-may_become
 returns-then-not-may_become c = search (filling_other, rules)

@@ -1,10 +1,10 @@
 -- `edit::may_become` meets its contract. Assumes nothing.
-use Rattle.edit.proofs.Filling.{stays, was_unknown}
-use borrow.Author.Rules.{rules}
+use Rattle.std.proofs.Common.{◌∙◌, ap}
+use Rattle.sheet.specs.Bytes.{same}
+use Rattle.edit.proofs.Filling.{was_unknown}
 use Rattle.edit.proofs.may_become.Goals as goal
 
-pub returns-then-same_bytes : goal.returns-then-same_bytes
-returns-then-same_bytes c = search (stays, rules)
-
-pub returns : goal.returns
-returns c = search (was_unknown, rules)
+pub returns-else-eq : goal.returns-else-eq
+returns-else-eq c =
+    let a = c.args in
+    was_unknown a.old.now a.new.now c.eq.result c.eq.ensures c.if-eq.false c.eq-else-eq.result (c.eq-else-eq.ensures ∙ ap (same a.old.now) c.as_slice.ensures)

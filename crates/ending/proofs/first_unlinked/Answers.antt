@@ -1,16 +1,21 @@
 -- `ending::first_unlinked` meets its contract. Assumes nothing.
-use Rattle.ending.proofs.Finishing.{linking_start, linking_here, linking_on, linking_none}
-use borrow.Author.Rules.{rules}
+use native.Mathlib.Omega.{arith}
+use Rattle.ending.proofs.Finishing.{linking_here, linking_on, linking_none}
 use Rattle.ending.proofs.first_unlinked.Goals as goal
 
-pub loop-i-init : goal.loop-i-init
-loop-i-init c = search (linking_start, rules)
-
 pub returns-then-is_unlinked : goal.returns-then-is_unlinked
-returns-then-is_unlinked c = search (linking_here, rules)
+returns-then-is_unlinked c =
+    let l = c.loop-policy in
+    let e = linking_here c.args.rows.now l.policy l.invariant (omega (arith, c.count-policy-end.ensures)) c.is_unlinked.result c.is_unlinked.ensures c.if-is_unlinked.true in
+    (omega (arith, e, c.count-policy-end.ensures), e)
 
-pub loop-i-preserved : goal.loop-i-preserved
-loop-i-preserved c = search (linking_on, rules)
+pub loop-policy-preserved : goal.loop-policy-preserved
+loop-policy-preserved c =
+    let l = c.loop-policy in
+    linking_on c.args.rows.now l.policy l.invariant (omega (arith, c.count-policy-end.ensures)) c.is_unlinked.result c.is_unlinked.ensures c.if-is_unlinked.false
 
 pub returns : goal.returns
-returns c = search (linking_none, rules)
+returns c =
+    let l = c.loop-policy in
+    let e = linking_none c.args.rows.now l.policy l.invariant (omega (arith, c.count-policy-end.ensures)) in
+    λ h. omega (arith, e, h, c.count-policy-end.ensures)

@@ -2,11 +2,11 @@
 use Rattle.evaluator.proofs.Settles.{only_error, only_is, only_other}
 use Rattle.evaluator.proofs.only_bool.Goals as goal
 
-pub returns-in_default : goal.returns-in_default
-returns-in_default c = search only_error
+pub returns-in_err-value : goal.returns-in_err-value
+returns-in_err-value c = only_error _ _ _ c.in_err-value.was _ c.from_residual.ensures.0
 
-pub returns-in-Is : goal.returns-in-Is
-returns-in-Is c = search only_is
+pub returns-in-Some : goal.returns-in-Some
+returns-in-Some c = only_is _ _ _ c.in_ok-value.was _ c.as_bool.ensures _ c.in-Some.is
 
-pub returns-in-Other : goal.returns-in-Other
-returns-in-Other c = search only_other
+pub returns-in-None : goal.returns-in-None
+returns-in-None c = only_other _ _ _ c.in_ok-value.was _ c.as_bool.ensures c.in-None.is

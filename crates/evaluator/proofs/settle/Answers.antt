@@ -1,5 +1,5 @@
 -- `evaluator::settle` meets its contract. Assumes nothing.
-use Rattle.evaluator.proofs.Settles.{settle_bool, settle_long, settle_old, settle_fails, settle_stays}
+use Rattle.evaluator.proofs.Settles.{settle_bool, settle_long, settle_old, settle_fails}
 use Rattle.evaluator.proofs.settle.Goals as goal
 
 pub returns-in-Bool : goal.returns-in-Bool
@@ -13,6 +13,3 @@ returns-in-Old c = search settle_old
 
 pub returns-in-Fails : goal.returns-in-Fails
 returns-in-Fails c = search settle_fails
-
-pub returns-in-Stays : goal.returns-in-Stays
-returns-in-Stays c = search settle_stays

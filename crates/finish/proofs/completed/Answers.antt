@@ -3,8 +3,8 @@ use Rattle.finish.proofs.Finishing.{complete_refused, complete_stands, complete_
 use borrow.Author.Rules.{rules}
 use Rattle.finish.proofs.completed.Goals as goal
 
-pub returns-then-number-ne0 : goal.returns-then-number-ne0
-returns-then-number-ne0 c = search (complete_refused, rules)
+pub returns-in-Err : goal.returns-in-Err
+returns-in-Err c = search (complete_refused, rules)
 
 pub agreed-requires : goal.agreed-requires
 agreed-requires c = search (complete_stands, rules)

@@ -1,6 +1,5 @@
 -- `firm::firm_in_words` meets its contract. Assumes nothing.
 use mathlib.Core.Path.{◌≡◌}
-use Prim.Native.Nat.{◌-◌, ◌/◌}
 use lib.ListN.{length}
 use Rattle.firm.specs.Words.{rows_of_words}
 use Rattle.firm.proofs.Quoting.{checking, Checking}
@@ -10,11 +9,5 @@ use Rattle.firm.proofs.firm_in_words.Given as goal
 abbrev pub invariant-loop-i : goal.invariant-loop-i
 invariant-loop-i l = Checking l.work1 (rows_of_words l.words) (checking l.work1 0 (rows_of_words l.words) l.initial.f) l.f l.i
 
-abbrev pub decreases-loop-i : goal.decreases-loop-i
-decreases-loop-i l = length l.words / 3 - l.i
-
 abbrev pub invariant-loop-j : goal.invariant-loop-j
 invariant-loop-j l = (length l.own ≡ 16384) × Wording l.sheet l.initial.words l.work1 l.initial.work2 l.initial.f l.words l.work2 l.f l.j
-
-abbrev pub decreases-loop-j : goal.decreases-loop-j
-decreases-loop-j l = length l.initial.words / 3 - l.j

@@ -10,13 +10,13 @@ pub enter-requires : goal.enter-requires
 enter-requires c =
     let h = c.loop-i-test.true in
     record {
-      number_in_bounds = entering_near _ _ _ _ _ _ _ _ _ _ _ _ c.loop-i.invariant h;
-      line_value = entering_line _ _ _ _ _ _ _ _ _ _ _ _ c.loop-i.invariant _ _ c.base_of-b.ensures c.read-end.ensures h _ c.cut.ensures;
+      number_in_bounds = entering_near _ _ _ _ _ _ c.loop-i.invariant h;
+      line_value = entering_line _ _ _ _ _ _ c.loop-i.invariant _ _ c.base_of-b.ensures c.read-end.ensures h _ c.cut.ensures;
       entered = c.loop-i.invariant.entered;
     }
 
 pub loop-i-preserved : goal.loop-i-preserved
-loop-i-preserved c = entering_on _ _ _ _ _ _ _ _ _ _ _ _ c.loop-i.invariant _ _ c.base_of-b.ensures c.read-end.ensures _ _ _ _ c.enter.ensures (search rules) (search rules) (search rules) (search rules)
+loop-i-preserved c = entering_on _ _ _ _ _ _ c.loop-i.invariant _ _ c.base_of-b.ensures c.read-end.ensures _ _ c.enter.ensures
 
 pub returns : goal.returns
 returns c = search (entering_end, rules)

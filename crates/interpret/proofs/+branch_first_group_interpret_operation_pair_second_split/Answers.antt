@@ -1,7 +1,4 @@
 -- The cycle of calls of `interpret` meets its contracts. Assumes nothing.
-use mathlib.Core.Path.{sym, ◌∙◌}
-use native.Mathlib.Omega.{arith}
-use borrow.Author.Tests.{leb-true}
 use Rattle.tpe.proofs.Kept.{interp_clear}
 use Rattle.interpret.proofs.Laws.{branch_true, branch_false, branch_error, branch_open, first_stops, first_goes, first_wrong, first_unsure, pair_is, split_is}
 use Rattle.interpret.proofs.Turns.{turn_start, turn_on, turn_end, interpret_deep, interpret_leaf, interpret_operation, interpret_set, interpret_record, interpret_slot, interpret_other, on_first, on_pair, on_branch, on_one}
@@ -18,7 +15,7 @@ pub branch-returns-in-Error : goal.branch-returns-in-Error
 branch-returns-in-Error t c = search branch_error
 
 pub branch-returns-in-Open : goal.branch-returns-in-Open
-branch-returns-in-Open t c = search (branch_open, c.requires.room, c.requires.start_le_top)
+branch-returns-in-Open t c = search (branch_open, c.args.log.now.room, c.requires.start_le_top)
 
 pub first-returns-in-Stops : goal.first-returns-in-Stops
 first-returns-in-Stops t c = search first_stops
@@ -30,16 +27,13 @@ pub first-returns-in-Wrong : goal.first-returns-in-Wrong
 first-returns-in-Wrong t c = search first_wrong
 
 pub first-returns-in-Unsure : goal.first-returns-in-Unsure
-first-returns-in-Unsure t c = search (first_unsure, c.requires.room, c.requires.start_le_top)
+first-returns-in-Unsure t c = search (first_unsure, c.args.log.now.room, c.requires.start_le_top)
 
-pub group-loop-rows-init : goal.group-loop-rows-init
-group-loop-rows-init t c = (search turn_start, (search rules, search rules, search rules))
+pub group-loop-i-init : goal.group-loop-i-init
+group-loop-i-init t c = (search turn_start, (search rules, search rules, search rules))
 
-pub group-loop-rows-smaller : goal.group-loop-rows-smaller
-group-loop-rows-smaller t c = let e = sym c.has_more.ensures ∙ c.loop-rows-test.true in omega (arith, leb-true, e, c.requires.step_nonzero)
-
-pub group-loop-rows-preserved : goal.group-loop-rows-preserved
-group-loop-rows-preserved t c = (search (turn_on, c.requires.step_nonzero), (search rules, search rules, search interp_clear))
+pub group-loop-i-preserved : goal.group-loop-i-preserved
+group-loop-i-preserved t c = (search turn_on, (search rules, search rules, search interp_clear))
 
 pub group-returns : goal.group-returns
 group-returns t c = search turn_end
@@ -66,28 +60,28 @@ pub interpret-returns-in_default : goal.interpret-returns-in_default
 interpret-returns-in_default t c = search interpret_other
 
 pub operation-first-requires : goal.operation-first-requires
-operation-first-requires t c = (search rules, (search rules, (search rules, search interp_clear)))
+operation-first-requires t c = (search rules, (search rules, search interp_clear))
 
 pub operation-returns-then-tag-lt-EQ : goal.operation-returns-then-tag-lt-EQ
-operation-returns-then-tag-lt-EQ t c = search (on_first, c.requires.room, c.requires.le_tag)
+operation-returns-then-tag-lt-EQ t c = search (on_first, c.args.log.now.room, c.requires.le_tag)
 
 pub operation-pair-requires : goal.operation-pair-requires
-operation-pair-requires t c = (search rules, (search rules, (search rules, search interp_clear)))
+operation-pair-requires t c = (search rules, (search rules, search interp_clear))
 
 pub operation-returns-then-tag-lt-IF : goal.operation-returns-then-tag-lt-IF
-operation-returns-then-tag-lt-IF t c = search (on_pair, c.requires.room, c.requires.le_tag)
+operation-returns-then-tag-lt-IF t c = search (on_pair, c.args.log.now.room, c.requires.le_tag)
 
-pub operation-branch-sheet-requires : goal.operation-branch-sheet-requires
-operation-branch-sheet-requires t c = (search rules, (search rules, (search rules, search interp_clear)))
+pub operation-branch-setting-requires : goal.operation-branch-setting-requires
+operation-branch-setting-requires t c = (search rules, (search rules, search interp_clear))
 
 pub operation-returns-then-tag-lt-IS : goal.operation-returns-then-tag-lt-IS
-operation-returns-then-tag-lt-IS t c = search (on_branch, c.requires.room, c.requires.le_tag)
+operation-returns-then-tag-lt-IS t c = search (on_branch, c.args.log.now.room, c.requires.le_tag)
 
 pub operation-one-requires-clause-clear : goal.operation-one-requires-clause-clear
 operation-one-requires-clause-clear t c = search interp_clear
 
 pub operation-returns : goal.operation-returns
-operation-returns t c = search (on_one, c.requires.room, c.requires.le_tag)
+operation-returns t c = search (on_one, c.args.log.now.room, c.requires.le_tag)
 
 pub pair-two-requires-clause-clear : goal.pair-two-requires-clause-clear
 pair-two-requires-clause-clear t c = search interp_clear
@@ -98,8 +92,8 @@ pair-returns t c = search pair_is
 pub second-beside-requires-clause-clear : goal.second-beside-requires-clause-clear
 second-beside-requires-clause-clear t c = search interp_clear
 
-pub split-interpret-end-requires : goal.split-interpret-end-requires
-split-interpret-end-requires t c = (search rules, (search rules, search interp_clear))
+pub split-interpret-requires-2 : goal.split-interpret-requires-2
+split-interpret-requires-2 t c = (search rules, search interp_clear)
 
 pub split-returns : goal.split-returns
-split-returns t c = search (split_is, c.requires.room, c.requires.start_le_top)
+split-returns t c = search (split_is, c.requires.start_le_top)

@@ -1,10 +1,11 @@
 -- What the loop of `group` keeps, and the measures of the cycle of calls of `interpret`.
 use mathlib.Core.Path.{◌≡◌}
-use Prim.Native.Nat.{◌+◌, ◌*◌, ◌-◌}
+use Prim.Native.Nat.{◌+◌, ◌*◌}
 use lib.ListN.{length}
 use Rattle.sheet.specs.Forms.{partial}
 use Rattle.value.specs.Clear.{Clear}
 use Rattle.tpe.specs.Run.{interp_of}
+use Rattle.tpe.specs.Joins.{join_in}
 use Rattle.interpret.proofs.Turns.{Turning}
 use Rattle.interpret.proofs.+branch_first_group_interpret_operation_pair_second_split.Given as goal
 
@@ -32,10 +33,7 @@ decreases-second l = l.depth * 8 + 1
 abbrev pub decreases-split : goal.decreases-split
 decreases-split l = l.depth * 8 + 1
 
-abbrev pub invariant-group-loop-rows : goal.invariant-group-loop-rows
-invariant-group-loop-rows l =
-    Turning (interp_of partial l.sheet l.p l.q l.depth) l.node l.step l.top l.len l.initial.rows l.initial.log l.rows l.log l.end l.joined l.i
-    × ((length l.rows ≡ length l.initial.rows) × (length l.log ≡ length l.initial.log) × Clear l.rows l.skip)
-
-abbrev pub decreases-group-loop-rows : goal.decreases-group-loop-rows
-decreases-group-loop-rows l = l.len - l.i
+abbrev pub invariant-group-loop-i : goal.invariant-group-loop-i
+invariant-group-loop-i l =
+    Turning (interp_of partial l.setting.sheet.now l.setting.principal l.setting.resource l.depth) l.node l.step l.start l.most l.initial.rows l.initial.log.words.now l.rows l.log.words.now l.log.top (join_in l.joined) l.i
+    × ((length l.rows ≡ length l.initial.rows) × (l.log.words.ghost_name ≡ l.initial.log.words.ghost_name) × Clear l.rows l.setting.skip)

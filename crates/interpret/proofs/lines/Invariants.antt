@@ -1,11 +1,8 @@
 -- `interpret::lines` meets its contract. Assumes nothing.
 use mathlib.Core.Path.{◌≡◌}
-use lib.ListN.{length}
-use Rattle.interpret.proofs.Notes.{Noting}
+use Prim.Native.Nat.{◌≤◌}
+use Rattle.interpret.specs.Lines.{lines_from, lines_of}
 use Rattle.interpret.proofs.lines.Given as goal
 
 abbrev pub invariant-loop-k : goal.invariant-loop-k
-invariant-loop-k l = Noting l.rows l.initial.log l.log l.top l.k l.end × (length l.log ≡ length l.initial.log)
-
-abbrev pub decreases-loop-k : goal.decreases-loop-k
-decreases-loop-k l = l.k
+invariant-loop-k l = record { whole : lines_from l.rows l.k l.end l.log ≡ lines_of l.rows l.initial.log l.top; low : l.end ≤ 16384 }

@@ -1,5 +1,5 @@
 -- `judge::judge` meets its contract. Assumes nothing.
-use mathlib.Core.Path.{ap}
+use mathlib.Core.Path.{refl, ap}
 use mathlib.Core.Bool.{not}
 use lib.ListN.{take}
 use Rattle.words.specs.Log.{room}
@@ -20,9 +20,8 @@ pub returns-then-not-in_turn : goal.returns-then-not-in_turn
 returns-then-not-in_turn c = let s = c in
     let z = c.args in
     let o = c.in_turn in
-    let v = c.refused in
     judged_3 z.sheet.now z.rows.now z.work.now z.line.now s.requires.key_value.2 s.requires.key_value.3 s.requires.known.0 s.args.key s.requires.key_value.0 o.result o.ensures
-    (ap not c.if-not-in_turn.true) v.result.number v.result.key v.result.depth v.ensures
+    (ap not c.if-not-in_turn.true) 3 0 0 refl
 
 pub too_many-requires : goal.too_many-requires
 too_many-requires c = let s = c in noted_front s.args.sheet.now s.args.rows.now s.args.work.now s.args.line.now s.requires.key_value.2 s.requires.key_value.3 s.requires.known.1
@@ -32,38 +31,33 @@ returns-then-too_many c = let s = c in
     let z = c.args in
     let o = c.in_turn in
     let u = c.too_many in
-    let v = c.refused-then-too_many in
     judged_4 z.sheet.now z.rows.now z.work.now z.line.now s.requires.key_value.2 s.requires.key_value.3 s.requires.known.0 s.args.key s.requires.key_value.0 o.result o.ensures
-    (ap not c.if-not-in_turn.false) u.result u.ensures c.if-too_many.true v.result.number v.result.key v.result.depth v.ensures
+    (ap not c.if-not-in_turn.false) u.result u.ensures c.if-too_many.true 4 0 0 refl
 
-pub depth_of-d-requires : goal.depth_of-d-requires
-depth_of-d-requires c = let s = c in
+pub depth_of-requires : goal.depth_of-requires
+depth_of-requires c = let s = c in
     let z = s.args in
     let u = c.too_many in record {
       key_value = (s.requires.key_value.0, key_of_line (take room z.rows.now) z.key z.line.now u.result u.ensures c.if-too_many.false);
       noted = (noted_front z.sheet.now z.rows.now z.work.now z.line.now s.requires.key_value.2 s.requires.key_value.3 s.requires.known.1, unlike_front z.sheet.now z.rows.now z.work.now z.line.now s.requires.key_value.2 s.requires.key_value.3 z.new s.requires.known.2);
     }
 
-pub returns-then-d-eq0 : goal.returns-then-d-eq0
-returns-then-d-eq0 c = let s = c in
+pub returns-in_default : goal.returns-in_default
+returns-in_default c = let s = c in
     let z = c.args in
     let o = c.in_turn in
     let u = c.too_many in
-    let d = c.depth_of-d in
-    let v = c.refused-then-d-eq0 in
     judged_5 z.sheet.now z.rows.now z.work.now z.line.now s.requires.key_value.2 s.requires.key_value.3 s.requires.known.0 s.args.key s.requires.key_value.0 o.result o.ensures
-    (ap not c.if-not-in_turn.false) u.result u.ensures c.if-too_many.false d.result d.ensures c.if-d-eq0.true v.result.number v.result.key v.result.depth v.ensures
+    (ap not c.if-not-in_turn.false) u.result u.ensures c.if-too_many.false c.in_default.ensures 5 0 0 refl
 
 pub returns-then-is_too_deep : goal.returns-then-is_too_deep
 returns-then-is_too_deep c = let s = c in
     let z = c.args in
     let o = c.in_turn in
     let u = c.too_many in
-    let d = c.depth_of-d in
     let q = c.is_too_deep in
-    let v = c.refused-then-is_too_deep in
     judged_6 z.sheet.now z.rows.now z.work.now z.line.now s.requires.key_value.2 s.requires.key_value.3 s.requires.known.0 s.args.key s.requires.key_value.0 o.result o.ensures
-    (ap not c.if-not-in_turn.false) u.result u.ensures c.if-too_many.false d.result d.ensures c.if-d-eq0.false q.result q.ensures c.if-is_too_deep.true v.result.number v.result.key v.result.depth v.ensures
+    (ap not c.if-not-in_turn.false) u.result u.ensures c.if-too_many.false c.in-Some.depth c.in-Some.ensures q.result q.ensures c.if-is_too_deep.true 6 0 0 refl
 
 pub typed_line-requires : goal.typed_line-requires
 typed_line-requires c = let s = c in known_front s.args.sheet.now s.args.rows.now s.args.work.now s.args.line.now s.requires.key_value.2 s.requires.key_value.3 s.requires.known.0
@@ -73,12 +67,10 @@ returns-then-not-typed_line c = let s = c in
     let z = c.args in
     let o = c.in_turn in
     let u = c.too_many in
-    let d = c.depth_of-d in
     let q = c.is_too_deep in
     let y = c.typed_line in
-    let v = c.refused-then-not-typed_line in
     judged_7 z.sheet.now z.rows.now z.work.now z.line.now s.requires.key_value.2 s.requires.key_value.3 s.requires.known.0 s.args.key s.requires.key_value.0 o.result o.ensures
-    (ap not c.if-not-in_turn.false) u.result u.ensures c.if-too_many.false d.result d.ensures c.if-d-eq0.false q.result q.ensures c.if-is_too_deep.false y.new.work y.result y.ensures (ap not c.if-not-typed_line.true) v.result.number v.result.key v.result.depth v.ensures
+    (ap not c.if-not-in_turn.false) u.result u.ensures c.if-too_many.false c.in-Some.depth c.in-Some.ensures q.result q.ensures c.if-is_too_deep.false y.new.work y.result y.ensures (ap not c.if-not-typed_line.true) 7 0 0 refl
 
 pub use_root-requires : goal.use_root-requires
 use_root-requires c = let s = c in (s.requires.key_value.0, s.requires.key_value.1)
@@ -88,25 +80,22 @@ returns-then-use_root c = let s = c in
     let z = c.args in
     let o = c.in_turn in
     let u = c.too_many in
-    let d = c.depth_of-d in
     let q = c.is_too_deep in
     let y = c.typed_line in
     let x = c.use_root in
-    let v = c.refused-then-use_root in
     judged_8 z.sheet.now z.rows.now z.work.now z.line.now s.requires.key_value.2 s.requires.key_value.3 s.requires.known.0 s.args.key s.requires.key_value.0 o.result o.ensures
-    (ap not c.if-not-in_turn.false) u.result u.ensures c.if-too_many.false d.result d.ensures c.if-d-eq0.false q.result q.ensures c.if-is_too_deep.false y.new.work y.result y.ensures (ap not c.if-not-typed_line.false) x.new.work x.result (marked_other (take room z.rows.now) y.new.work z.line.now x.new.work x.result z.key s.requires.key_value.0 s.requires.key_value.1 x.ensures) c.if-use_root.true v.result.number v.result.key v.result.depth v.ensures
+    (ap not c.if-not-in_turn.false) u.result u.ensures c.if-too_many.false c.in-Some.depth c.in-Some.ensures q.result q.ensures c.if-is_too_deep.false y.new.work y.result y.ensures (ap not c.if-not-typed_line.false) x.new.work x.result (marked_other (take room z.rows.now) y.new.work z.line.now x.new.work x.result z.key s.requires.key_value.0 s.requires.key_value.1 x.ensures) c.if-use_root.true 8 0 0 refl
 
 pub overflow_cast-result : goal.overflow_cast-result
-overflow_cast-result c = let q = c.is_too_deep in record { fits = depth_low c.depth_of-d.result q.result q.ensures c.if-is_too_deep.false }
+overflow_cast-result c = let q = c.is_too_deep in record { fits = depth_low c.in-Some.depth q.result q.ensures c.if-is_too_deep.false }
 
 pub returns : goal.returns
 returns c = let s = c in
     let z = c.args in
     let o = c.in_turn in
     let u = c.too_many in
-    let d = c.depth_of-d in
     let q = c.is_too_deep in
     let y = c.typed_line in
     let x = c.use_root in
     judged_0 z.sheet.now z.rows.now z.work.now z.line.now s.requires.key_value.2 s.requires.key_value.3 s.requires.known.0 s.args.key s.requires.key_value.0 o.result o.ensures
-    (ap not c.if-not-in_turn.false) u.result u.ensures c.if-too_many.false d.result d.ensures c.if-d-eq0.false q.result q.ensures c.if-is_too_deep.false y.new.work y.result y.ensures (ap not c.if-not-typed_line.false) x.new.work x.result (marked_other (take room z.rows.now) y.new.work z.line.now x.new.work x.result z.key s.requires.key_value.0 s.requires.key_value.1 x.ensures) c.if-use_root.false
+    (ap not c.if-not-in_turn.false) u.result u.ensures c.if-too_many.false c.in-Some.depth c.in-Some.ensures q.result q.ensures c.if-is_too_deep.false y.new.work y.result y.ensures (ap not c.if-not-typed_line.false) x.new.work x.result (marked_other (take room z.rows.now) y.new.work z.line.now x.new.work x.result z.key s.requires.key_value.0 s.requires.key_value.1 x.ensures) c.if-use_root.false

@@ -5,7 +5,8 @@ use Prim.Native.Nat.{ℕ}
 use native.Mathlib.Omega.{arith}
 use Rattle.sheet.specs.Forms.{key_of, NODE}
 use Rattle.seen.proofs.SeenLaws.{see_other}
-use Rattle.judge.specs.Verdicts.{Judged, seen_at}
+use Rattle.faults.specs.Numbers.{fault_number}
+use Rattle.judge.specs.Verdicts.{Judged, key_in, depth_in, seen_at}
 use Rattle.judge.proofs.Alike.{unlike_line}
 use Rattle.judge.proofs.Judging.{key_of_row}
 use Rattle.judge.proofs.judge_at.Goals as goal
@@ -26,7 +27,7 @@ returns-then-key-eq-NODE c = let z = c.args in
     let j = c.judge_node in
     let e : k.result ≡ key_of r.result.now = key_of_row r.result.now t.result k.result t.ensures k.ensures in
     let n : NODE ≡ key_of r.result.now = sym c.if-key-eq-NODE.true ∙ e in record {
-      verdict = subst (λ (x : List ℕ). Judged z.sheet.now z.rows.now z.work.now x j.new.work j.result.number j.result.key j.result.depth) r.ensures j.ensures;
+      verdict = subst (λ (x : List ℕ). Judged z.sheet.now z.rows.now z.work.now x j.new.work (fault_number j.result) (key_in j.result) (depth_in j.result)) r.ensures j.ensures;
       seen = (see_other z.sheet.now r.result.now z.seen.now NODE n (λ q. absurd (omega arith)) (λ q. absurd (omega arith)) (λ q. absurd (omega arith))).1 ∙ ap (seen_at z.sheet.now z.seen.now) r.ensures;
     }
 
@@ -52,6 +53,6 @@ returns c = let z = c.args in
     let r = c.cut-line in
     let n = c.see_line-new in
     let j = c.judge in record {
-      verdict = subst (λ (x : List ℕ). Judged z.sheet.now z.rows.now z.work.now x j.new.work j.result.number j.result.key j.result.depth) r.ensures j.ensures;
+      verdict = subst (λ (x : List ℕ). Judged z.sheet.now z.rows.now z.work.now x j.new.work (fault_number j.result) (key_in j.result) (depth_in j.result)) r.ensures j.ensures;
       seen = n.ensures.with ∙ ap (seen_at z.sheet.now z.seen.now) r.ensures;
     }

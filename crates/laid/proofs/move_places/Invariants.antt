@@ -1,11 +1,6 @@
 -- `laid::move_places` meets its contract. Assumes nothing.
-use Prim.Native.Nat.{◌-◌}
-use Rattle.table.specs.Layout.{TOP}
 use Rattle.laid.proofs.Copying.{MovingKeys}
 use Rattle.laid.proofs.move_places.Given as goal
 
 abbrev pub invariant-loop-key : goal.invariant-loop-key
 invariant-loop-key l = MovingKeys l.rows l.initial.own l.own l.key
-
-abbrev pub decreases-loop-key : goal.decreases-loop-key
-decreases-loop-key l = TOP - l.key

@@ -3,8 +3,8 @@ use Rattle.like.proofs.Globbing.{first_misses, first_ends, first_most, first_wit
 use borrow.Author.Rules.{rules}
 use Rattle.like.proofs.like.Goals as goal
 
-pub go_on-requires : goal.go_on-requires
-go_on-requires c = (search (first_most, rules), search (first_within, rules))
+pub invariant_of-go_on : goal.invariant_of-go_on
+invariant_of-go_on c = record { item = search (first_most, rules); place = search (first_within, rules) }
 
 pub returns-in-Misses : goal.returns-in-Misses
 returns-in-Misses c = search (first_misses, first_ends, first_star, rules)

@@ -1,16 +1,9 @@
 -- `line::head_of` meets its contract. Assumes nothing.
-use Rattle.line.proofs.LawsValue.{begun_node, begun_type, begun_value, begun_plain}
-use borrow.Author.Rules.{rules}
+use Rattle.line.proofs.LawsValue.{begun_plain, begun_none}
 use Rattle.line.proofs.head_of.Goals as goal
 
-pub returns-then-key-eq-NODE : goal.returns-then-key-eq-NODE
-returns-then-key-eq-NODE c = search (begun_node, rules)
-
-pub returns-then-key-eq-TYPE : goal.returns-then-key-eq-TYPE
-returns-then-key-eq-TYPE c = search (begun_type, rules)
-
-pub returns-then-key-eq-VALUE : goal.returns-then-key-eq-VALUE
-returns-then-key-eq-VALUE c = search (begun_value, rules)
+pub returns-in_err-tag : goal.returns-in_err-tag
+returns-in_err-tag c = let a = c.args in rw c.from_residual.ensures (begun_none a.key a.top a.bytes.now a.rows.now a.cursor c.requires.0 c.if-key-eq-NODE.false c.if-key-eq-TYPE.false c.if-key-eq-VALUE.false c.in_err-tag.ensures)
 
 pub returns : goal.returns
-returns c = search (begun_plain, rules)
+returns c = let a = c.args in begun_plain a.key a.top a.bytes.now a.rows.now a.cursor c.requires.0 c.if-key-eq-NODE.false c.if-key-eq-TYPE.false c.if-key-eq-VALUE.false _ c.in_ok-tag.ensures

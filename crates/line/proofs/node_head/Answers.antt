@@ -1,21 +1,17 @@
 -- `line::node_head` meets its contract. Assumes nothing.
+use Rattle.std.proofs.Common.{refl}
 use native.Mathlib.Omega.{arith}
-use Rattle.line.proofs.LawsValue.{node_untyped, node_alone, node_head_law}
-use borrow.Author.Rules.{rules}
+use Rattle.line.proofs.LawsValue.{node_untyped, node_alone, node_none, node_head_law}
 use Rattle.line.proofs.node_head.Goals as goal
 
-pub returns-in_default : goal.returns-in_default
-returns-in_default c = search (node_untyped, rules)
+pub returns-in_err-first : goal.returns-in_err-first
+returns-in_err-first c = rw c.from_residual.ensures (node_untyped c.args.bytes.now c.args.cursor c.requires.0 c.number.result c.number.ensures c.in_err-first.was, refl)
 
-pub returns-in_default-item : goal.returns-in_default-item
-returns-in_default-item c = search (node_alone, rules)
+pub returns-in_err-end : goal.returns-in_err-end
+returns-in_err-end c = rw c.from_residual-in_err-end.ensures (node_alone c.args.bytes.now c.args.cursor c.requires.0 c.number.result c.number.ensures c.in_ok-first.first c.in_ok-first.typed c.in_ok-first.was c.item.result c.item.ensures c.in_err-end.was, refl)
+
+pub returns-in_err-tag : goal.returns-in_err-tag
+returns-in_err-tag c = rw c.from_residual-in_err-tag.ensures (node_none c.args.bytes.now c.args.cursor c.requires.0 c.number.result c.number.ensures c.in_ok-first.first c.in_ok-first.typed c.in_ok-first.was c.item.result c.item.ensures c.in_ok-end.end c.in_ok-end.items c.in_ok-end.was c.part_of.result.now c.part_of.ensures c.in_err-tag.ensures, refl)
 
 pub returns : goal.returns
-returns c = let t = c.node_form-tag in
-    let f = c.part_of in
-    let e = c.in-Part in
-    let i = c.item in
-    let x = c.in-Value in
-    let d = c.number in
-    let a = c in
-    node_head_law a.args.bytes.now a.args.cursor a.requires.0 d.result d.ensures x.first x.typed x.is i.result i.ensures e.end e.items e.is f.result.now f.ensures t.result t.ensures a.args.top a.args.rows.now (omega arith) (omega arith)
+returns c = node_head_law c.args.bytes.now c.args.cursor c.requires.0 c.number.result c.number.ensures c.in_ok-first.first c.in_ok-first.typed c.in_ok-first.was c.item.result c.item.ensures c.in_ok-end.end c.in_ok-end.items c.in_ok-end.was c.part_of.result.now c.part_of.ensures _ c.in_ok-tag.ensures c.args.top c.args.rows.now (omega arith) (omega arith)

@@ -1,18 +1,15 @@
 -- `line::row_entry` meets its contract. Assumes nothing.
 use Prim.Native.Nat.{◌+◌}
-use native.Mathlib.Omega.{arith}
+use Rattle.line.proofs.LawsRow.{wrote_as}
 use Rattle.line.proofs.LawsLine.{entry_row, entry_text}
-use borrow.Author.Rules.{rules}
 use Rattle.line.proofs.row_entry.Goals as goal
 
 pub returns-then-key-eq-TEXT : goal.returns-then-key-eq-TEXT
-returns-then-key-eq-TEXT c = search (entry_text, rules)
-
-pub row_value-requires : goal.row_value-requires
-row_value-requires c = omega (arith, c.items.ensures.1)
+returns-then-key-eq-TEXT c =
+    let a = c.args in
+    wrote_as _ _ c.row_text.result (λ r q. entry_text a.rows.now c.row_text.new.rows a.bytes.now a.partial a.key a.top r (a.equals.at + 1) c.if-key-eq-TEXT.true q) c.row_text.ensures
 
 pub returns : goal.returns
-returns c = let v = c.row_value in
-    let i = c.items in
-    let a = c in
-    entry_row a.args.rows.now _ a.args.bytes.now a.args.partial a.args.key a.args.top v.result (a.args.equals.at + 1) i.result i.ensures.1 c.if-key-eq-TEXT.false v.ensures
+returns c =
+    let a = c.args in
+    wrote_as _ _ c.row_value.result (λ r q. entry_row a.rows.now c.row_value.new.rows a.bytes.now a.partial a.key a.top r (a.equals.at + 1) c.items.result c.items.ensures.1 c.if-key-eq-TEXT.false q) c.row_value.ensures

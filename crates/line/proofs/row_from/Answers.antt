@@ -1,24 +1,13 @@
 -- `line::row_from` meets its contract. Assumes nothing.
 use native.Mathlib.Omega.{arith}
-use lib.ListN.{length-set}
+use Rattle.std.proofs.Common.{refl}
 use Rattle.line.proofs.LawsRow.{from_bad, from_good}
-use borrow.Author.Rules.{rules}
 use Rattle.line.proofs.row_from.Goals as goal
 
-pub put_items-z-requires : goal.put_items-z-requires
-put_items-z-requires c = let a = c.args in omega (arith, length-set a.rows.now a.top a.tag)
-
-pub shape_of-rows-then-z-eq0 : goal.shape_of-rows-then-z-eq0
-shape_of-rows-then-z-eq0 c = let a = c.args in omega (arith, length-set a.rows.now a.top a.tag)
-
-pub returns-then-z-eq0 : goal.returns-then-z-eq0
-returns-then-z-eq0 c = search (from_bad, rules)
-
-pub overflow_sub-result : goal.overflow_sub-result
-overflow_sub-result c = omega (arith, c.put_items-z.ensures.grows (omega arith))
-
-pub shape_of-rows : goal.shape_of-rows
-shape_of-rows c = let a = c.args in omega (arith, length-set a.rows.now a.top a.tag)
+pub returns-in_err-end : goal.returns-in_err-end
+returns-in_err-end c = let a = c.args in rw c.from_residual.ensures (from_bad a.tag a.j a.top a.cursor.at _ _ a.rows.now (omega arith) (omega arith) (omega arith) (omega arith) c.requires.2 _ 0 c.in_err-end.ensures refl)
 
 pub returns : goal.returns
-returns c = search (from_good, rules)
+returns c =
+    let a = c.args in
+    (from_good a.tag a.j a.top a.cursor.at _ _ a.rows.now (omega arith) (omega arith) (omega arith) (omega arith) c.requires.2 _ c.in_ok-end.end c.put_items.auto.rows c.in_ok-end.ensures.0 (λ z. omega (arith, c.in_ok-end.ensures.1, z)), omega (arith, c.in_ok-end.ensures.0.grows c.in_ok-end.ensures.1))

@@ -1,7 +1,6 @@
 -- `listing::number_after` meets its contract. Assumes nothing.
-use Rattle.listing.proofs.Printing.{number_after_law}
-use borrow.Author.Rules.{rules}
+use Rattle.print.proofs.Outs.{prints_two}
 use Rattle.listing.proofs.number_after.Goals as goal
 
 pub returns : goal.returns
-returns c = search (number_after_law, rules)
+returns c = prints_two c.byte.ensures c.number.ensures

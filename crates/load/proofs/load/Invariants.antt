@@ -10,8 +10,8 @@ use Rattle.seen.specs.Seen.{PLACE_WORDS, Seen}
 use Rattle.load.proofs.Loading.{Progress}
 use Rattle.load.proofs.load.Given as goal
 
-abbrev pub invariant-loop-seen : goal.invariant-loop-seen
-invariant-loop-seen l = Progress (mode_of l.partial) l.sheet l.initial.rows l.initial.work l.rows l.work l.c.at l.c.line × Seen (held l.sheet l.rows l.work) l.seen × (PLACE_WORDS ≡ length l.seen) × (in_order (held l.sheet l.rows l.work) l.last ≡ true)
+abbrev pub invariant-lines : goal.invariant-lines
+invariant-lines l = Progress (mode_of l.partial) l.sheet l.initial.rows l.initial.work l.rows l.work l.c.at l.c.line × Seen (held l.sheet l.rows l.work) l.seen × (PLACE_WORDS ≡ length l.seen) × (in_order (held l.sheet l.rows l.work) l.last ≡ true)
 
-abbrev pub decreases-loop-seen : goal.decreases-loop-seen
-decreases-loop-seen l = length l.sheet - l.c.at
+abbrev pub decreases-lines : goal.decreases-lines
+decreases-lines l = length l.sheet - l.c.at

@@ -1,5 +1,5 @@
 -- `long::product_outside` meets its contract. Assumes nothing.
-use Rattle.long.proofs.ProductWords.{zero_test, smallest_test, pp_test, pn_test, np_test, nn_test, pp_divides, pn_divides, np_divides, nn_divides}
+use Rattle.long.proofs.ProductWords.{pp_test, pn_test, np_test, nn_test, pp_divides, pn_divides, np_divides, nn_divides}
 use borrow.Author.Rules.{rules}
 use Rattle.long.proofs.product_outside.Goals as goal
 
@@ -14,12 +14,6 @@ nonzero_div-result-in-NegativePositive c = search (np_divides, rules)
 
 pub nonzero_div-result-in-BothNegative : goal.nonzero_div-result-in-BothNegative
 nonzero_div-result-in-BothNegative c = search (nn_divides, rules)
-
-pub returns-in-WithZero : goal.returns-in-WithZero
-returns-in-WithZero c = search (zero_test, rules)
-
-pub returns-in-WithSmallest : goal.returns-in-WithSmallest
-returns-in-WithSmallest c = search (smallest_test, rules)
 
 pub returns-in-BothPositive : goal.returns-in-BothPositive
 returns-in-BothPositive c = search (pp_test, rules)

@@ -9,8 +9,8 @@ loop-i-init c = search (walk_start, rules)
 pub loop-i-preserved : goal.loop-i-preserved
 loop-i-preserved c = search (walk_on, rules)
 
-pub returns-then-i-n : goal.returns-then-i-n
-returns-then-i-n c = search (walk_end, rules)
+pub returns : goal.returns
+returns c = search (walk_end, rules)
 
 pub returns-then-is_entity : goal.returns-then-is_entity
 returns-then-is_entity c = search (walk_hit, rules)

@@ -1,10 +1,6 @@
 -- `lookup::find_entity` meets its contract. Assumes nothing.
-use Prim.Native.Nat.{◌-◌}
 use Rattle.lookup.proofs.Finds.{Walking}
 use Rattle.lookup.proofs.find_entity.Given as goal
 
 abbrev pub invariant-loop-i : goal.invariant-loop-i
 invariant-loop-i l = Walking l.rows l.kind l.text l.n l.i l.s
-
-abbrev pub decreases-loop-i : goal.decreases-loop-i
-decreases-loop-i l = l.n - l.i

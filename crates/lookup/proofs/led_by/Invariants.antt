@@ -1,11 +1,10 @@
 -- `lookup::led_by` meets its contract. Assumes nothing.
+use Prim.Native.Nat.{◌-◌}
 use Rattle.sheet.specs.Forms.{ENTITY}
 use Rattle.table.specs.Layout.{rows_of}
+use Rattle.lookup.specs.Lookups.{HALVINGS}
 use Rattle.lookup.proofs.Halving.{Halving}
 use Rattle.lookup.proofs.led_by.Given as goal
 
-abbrev pub invariant-loop-left : goal.invariant-loop-left
-invariant-loop-left l = Halving (rows_of l.rows ENTITY) l.value l.left l.step l.line
-
-abbrev pub decreases-loop-left : goal.decreases-loop-left
-decreases-loop-left l = l.left
+abbrev pub invariant-loop : goal.invariant-loop
+invariant-loop l = Halving (rows_of l.rows ENTITY) l.value (HALVINGS - l.counter) l.step l.line

@@ -5,7 +5,7 @@ use borrow.Author.Rules.{rules}
 use Rattle.notes.proofs.look_new.Goals as goal
 
 pub returns-in_default : goal.returns-in_default
-returns-in_default c = looked_other _ _ _ _ _ _ _ _ c.requires.noted c.note.ensures _ _ _ _ c.row_of.ensures c.shape_of-s.ensures refl (search rules) c.look_at.ensures
+returns-in_default c = looked_other _ _ _ _ _ _ c.requires c.note.ensures _ _ _ _ c.row_of.ensures c.shape_of-s.ensures refl (search rules) c.look_at.ensures
 
 pub returns-in-Unknown : goal.returns-in-Unknown
 returns-in-Unknown c = search (looked_unknown, rules)

@@ -6,9 +6,6 @@ use Rattle.order.proofs.OrderLaws.{none_missing, one_missing, shape_missing, day
 use Rattle.sheet.specs.Forms.{SHEET, PRINCIPAL, ACTION, RESOURCE, CONTEXT}
 use Rattle.order.proofs.enough_before.Goals as goal
 
-pub returns-then-key-eq-SHEET : goal.returns-then-key-eq-SHEET
-returns-then-key-eq-SHEET c = let s = c in none_missing s.args.rows.now s.args.key s.requires (λ h. omega arith) (λ h. omega arith) (λ h. omega arith) (λ h. omega arith) (λ h. omega arith) (λ h. omega arith) (λ h. omega arith)
-
 pub returns-then-count-eq0 : goal.returns-then-count-eq0
 returns-then-count-eq0 c = let s = c in one_missing s.args.rows.now s.args.key s.requires SHEET c.count.result (inl refl) (omega arith) c.count.ensures c.if-count-eq0.true
 

@@ -1,5 +1,5 @@
 -- `order::in_order` meets its contract. Assumes nothing.
-use Rattle.order.proofs.OrderLaws.{zeros_start, zeros_off, zeros_on, zeros_end, nodes_off, links_off, terms_off, nodes_on}
+use Rattle.order.proofs.OrderLaws.{zeros_off, zeros_on, zeros_end, nodes_off, links_off, terms_off, nodes_on}
 use borrow.Author.Rules.{rules}
 use Rattle.order.proofs.in_order.Goals as goal
 
@@ -14,9 +14,6 @@ returns-then-count-ne0-3 c = search (terms_off, rules)
 
 pub returns-then-key-eq-NODE : goal.returns-then-key-eq-NODE
 returns-then-key-eq-NODE c = search (nodes_on, rules)
-
-pub loop-i-init : goal.loop-i-init
-loop-i-init c = search (zeros_start, rules)
 
 pub returns-then-n-ne0 : goal.returns-then-n-ne0
 returns-then-n-ne0 c = search (zeros_off, rules)

@@ -1,11 +1,6 @@
 -- `order::in_order` meets its contract. Assumes nothing.
 use Rattle.order.proofs.OrderLaws.{Zeros}
-use Prim.Native.Nat.{◌-◌}
-use Rattle.sheet.specs.Forms.{no_key}
 use Rattle.order.proofs.in_order.Given as goal
 
 abbrev pub invariant-loop-i : goal.invariant-loop-i
 invariant-loop-i l = Zeros l.rows l.key l.i
-
-abbrev pub decreases-loop-i : goal.decreases-loop-i
-decreases-loop-i l = no_key - l.i

@@ -1,10 +1,7 @@
 -- `order::is_full` meets its contract. Assumes nothing.
-use Rattle.order.proofs.OrderLaws.{full_none, full_some}
+use Rattle.order.proofs.OrderLaws.{full_some}
 use borrow.Author.Rules.{rules}
 use Rattle.order.proofs.is_full.Goals as goal
-
-pub returns-then-m-eq0 : goal.returns-then-m-eq0
-returns-then-m-eq0 c = search (full_none, rules)
 
 pub returns : goal.returns
 returns c = search (full_some, rules)

@@ -12,6 +12,6 @@ returns c = let s = c in
     let l = c.lines in
     let x = c.cut in
     let y = c.cut-2 in
-    let t = c.print_page in
+    let t = c.page_in in
     shows_whole s.args.sheet.now s.args.rows.now s.args.log.now r.new.rows r.new.log l.new.log x.result.now y.result.now s.args.out.now
-    r.result t.new.out t.result r.ensures s.requires.1 r.auto.log l.ensures x.ensures y.ensures c.if-out-lt-PAGE.false t.ensures
+    r.result t.new.buffer t.result r.ensures s.requires.1 r.auto.log l.ensures x.ensures y.ensures c.if-out-lt-PAGE.false t.ensures

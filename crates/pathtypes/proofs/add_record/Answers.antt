@@ -1,14 +1,9 @@
 -- `add_record`: one law for each answer.
 use Rattle.pathtypes.proofs.PathSets.{record_not, record_joins}
-use Rattle.words.proofs.Bits.{length_added}
-use borrow.Author.Rules.{rules}
 use Rattle.pathtypes.proofs.add_record.Goals as goal
 
 pub returns-then-not-is_record : goal.returns-then-not-is_record
 returns-then-not-is_record c = search record_not
-
-pub shape_of-records : goal.shape_of-records
-shape_of-records c = search (length_added, rules)
 
 pub returns : goal.returns
 returns c = search record_joins

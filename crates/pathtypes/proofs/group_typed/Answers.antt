@@ -13,17 +13,17 @@ use Rattle.pathtypes.proofs.group_typed.Goals as goal
 pub returns-then-not-add_type : goal.returns-then-not-add_type
 returns-then-not-add_type c = search path_none
 
+pub invariant_of-memory : goal.invariant_of-memory
+invariant_of-memory c = record { few = search rules; learned = search learned_none; looked = search seen_none }
+
 pub loop-i-init : goal.loop-i-init
-loop-i-init c = (search path_start, search kept_start, search learned_none, search seen_none, search rules, search rules, search rules, search rules, search rules, search rules, search rules)
+loop-i-init c = (search path_start, search kept_start, search rules, search rules, search rules)
 
-pub step-requires : goal.step-requires
-step-requires c = let v = c.loop-i.invariant in (search rules, v.6, v.7, v.8, v.9, v.10, refl, v.4, v.2, v.3)
-
-pub loop-i-preserved-then-is_same : goal.loop-i-preserved-then-is_same
-loop-i-preserved-then-is_same c = (path_same c.args.rows.now c.args.line.now c.args.start c.args.ty c.loop-i.records c.loop-i.kept c.loop-i.i c.loop-i.invariant.0 c.loop-i.invariant.1 c.skip-i.result c.skip-i.ensures c.item-text.result (replicate TYPE_WORDS 0) c.step.new.reached c.step.result c.if-i-line.false c.item-text.ensures refl c.step.ensures.0 (ap not c.if-not-step.false) c.is_same.result c.is_same.ensures c.if-is_same.true, kept_same c.args.rows.now c.args.line.now c.args.start c.args.ty c.loop-i.records c.loop-i.kept c.loop-i.i c.loop-i.invariant.0 c.loop-i.invariant.1 c.skip-i.result c.skip-i.ensures c.item-text.result (replicate TYPE_WORDS 0) c.step.new.reached c.step.result c.if-i-line.false c.item-text.ensures refl c.step.ensures.0 (ap not c.if-not-step.false) c.is_same.result c.is_same.ensures c.if-is_same.true c.add.new.words c.add.ensures, c.step.ensures.1, c.step.ensures.2, c.loop-i.invariant.4, c.kept-then-is_same-2-1.given, c.known-in-loop-i-1.given, c.sets-in-loop-i-1.given, c.texts-in-loop-i-1.given, c.seen-in-loop-i-1.given, c.images-in-loop-i-1.given)
+pub loop-i-preserved-then-eq : goal.loop-i-preserved-then-eq
+loop-i-preserved-then-eq c = (path_same c.args.rows.now c.args.line.now c.args.start c.args.ty c.loop-i.records c.loop-i.kept c.loop-i.i c.loop-i.invariant.0 c.loop-i.invariant.1 c.skip-i.result c.skip-i.ensures c.item-text.result (replicate TYPE_WORDS 0) c.step.new.reached c.step.result c.if-i-line.false c.item-text.ensures refl c.loop-i.memory.rows.now c.loop-i.invariant.2 c.step.ensures.gathered (ap not c.if-not-step.false) c.eq.result c.eq.ensures c.if-eq.true, kept_same c.args.rows.now c.args.line.now c.args.start c.args.ty c.loop-i.records c.loop-i.kept c.loop-i.i c.loop-i.invariant.0 c.loop-i.invariant.1 c.skip-i.result c.skip-i.ensures c.item-text.result (replicate TYPE_WORDS 0) c.step.new.reached c.step.result c.if-i-line.false c.item-text.ensures refl c.loop-i.memory.rows.now c.loop-i.invariant.2 c.step.ensures.gathered (ap not c.if-not-step.false) c.eq.result c.eq.ensures c.if-eq.true c.add.new.words c.add.ensures, search rules, search rules, search rules)
 
 pub loop-i-preserved : goal.loop-i-preserved
-loop-i-preserved c = (path_on c.args.rows.now c.args.line.now c.args.start c.args.ty c.loop-i.records c.loop-i.kept c.loop-i.i c.loop-i.invariant.0 c.loop-i.invariant.1 c.skip-i.result c.skip-i.ensures c.item-text.result (replicate TYPE_WORDS 0) c.step.new.reached c.step.result c.if-i-line.false c.item-text.ensures refl c.step.ensures.0 (ap not c.if-not-step.false), search kept_start, c.step.ensures.1, c.step.ensures.2, c.reached-in-loop-i-1.given, search rules, c.known-in-loop-i-1.given, c.sets-in-loop-i-1.given, c.texts-in-loop-i-1.given, c.seen-in-loop-i-1.given, c.images-in-loop-i-1.given)
+loop-i-preserved c = (path_on c.args.rows.now c.args.line.now c.args.start c.args.ty c.loop-i.records c.loop-i.kept c.loop-i.i c.loop-i.invariant.0 c.loop-i.invariant.1 c.skip-i.result c.skip-i.ensures c.item-text.result (replicate TYPE_WORDS 0) c.step.new.reached c.step.result c.if-i-line.false c.item-text.ensures refl c.loop-i.memory.rows.now c.loop-i.invariant.2 c.step.ensures.gathered (ap not c.if-not-step.false), search kept_start, search rules, search rules, search rules)
 
 pub returns-then-i-line : goal.returns-then-i-line
 returns-then-i-line c = search path_end

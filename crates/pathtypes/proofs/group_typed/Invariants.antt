@@ -1,14 +1,13 @@
 -- `group_typed`: what is left of the path is asked of all record types reached.
-use Prim.Native.Nat.{◌-◌, ◌*◌}
+use Prim.Native.Nat.{◌-◌}
 use mathlib.Core.Path.{◌≡◌}
 use lib.ListN.{length}
-use Rattle.typesets.specs.Sets.{TYPE_WORDS, SLOTS, PLACES}
-use Rattle.pathtypes.specs.Paths.{SETS, Learned, Seen}
+use Rattle.typesets.specs.Sets.{TYPE_WORDS}
 use Rattle.pathtypes.proofs.PathLaws.{Path, Kept}
 use Rattle.pathtypes.proofs.group_typed.Given as goal
 
 abbrev pub invariant-loop-i : goal.invariant-loop-i
-invariant-loop-i l = Path l.rows l.line l.start l.ty l.records l.i × Kept l.rows l.records l.kept × Learned l.rows l.known l.sets × Seen l.rows l.texts l.seen l.images × (length l.records ≡ TYPE_WORDS) × (length l.kept ≡ 16) × (length l.known ≡ TYPE_WORDS) × (length l.sets ≡ SETS) × (length l.texts ≡ SLOTS) × (length l.seen ≡ SLOTS * TYPE_WORDS) × (length l.images ≡ PLACES * TYPE_WORDS)
+invariant-loop-i l = Path l.rows l.line l.start l.ty l.records l.i × Kept l.rows l.records l.kept × (l.memory.rows.now ≡ l.rows) × (length l.records ≡ TYPE_WORDS) × (length l.kept ≡ 16)
 
 abbrev pub decreases-loop-i : goal.decreases-loop-i
 decreases-loop-i l = length l.line - l.i

@@ -1,9 +1,6 @@
 -- `kinds_place`: one law for each answer.
-use Rattle.pathtypes.proofs.PlaceLaws.{place_group, place_alone, place_nowhere}
+use Rattle.pathtypes.proofs.PlaceLaws.{place_alone, place_nowhere}
 use Rattle.pathtypes.proofs.kinds_place.Goals as goal
-
-pub returns-then-type_row-gt2 : goal.returns-then-type_row-gt2
-returns-then-type_row-gt2 c = search place_group
 
 pub returns-then-is_record : goal.returns-then-is_record
 returns-then-is_record c = search place_alone

@@ -1,16 +1,10 @@
 -- `reach::index` meets its contract. Assumes nothing.
-use Rattle.reach.proofs.Steps.{walk_byte, walk_indexed, walk_listed, walk_on, walk_start}
+use Rattle.reach.proofs.Steps.{walk_on, walk_start}
 use borrow.Author.Rules.{rules}
 use Rattle.reach.proofs.index.Goals as goal
 
 pub loop-i-init : goal.loop-i-init
 loop-i-init c = search (walk_start, rules)
 
-pub overflow_cast-i-in-loop-i-2 : goal.overflow_cast-i-in-loop-i-2
-overflow_cast-i-in-loop-i-2 c = search (walk_byte, rules)
-
 pub loop-i-preserved : goal.loop-i-preserved
 loop-i-preserved c = search (walk_on, rules)
-
-pub returns : goal.returns
-returns c = search (walk_indexed, walk_listed, rules)

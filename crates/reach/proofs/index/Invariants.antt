@@ -4,6 +4,3 @@ use Rattle.reach.proofs.index.Given as goal
 
 abbrev pub invariant-loop-i : goal.invariant-loop-i
 invariant-loop-i l = Walking l.rows l.initial.places l.initial.sets l.places l.sets l.b l.i l.end
-
-abbrev pub decreases-loop-i : goal.decreases-loop-i
-decreases-loop-i l = l.i

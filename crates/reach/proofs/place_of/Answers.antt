@@ -1,10 +1,7 @@
 -- `reach::place_of` meets its contract. Assumes nothing.
-use Rattle.reach.proofs.Steps.{place_end, place_hit, place_on, place_start}
+use Rattle.reach.proofs.Steps.{place_end, place_hit, place_on}
 use borrow.Author.Rules.{rules}
 use Rattle.reach.proofs.place_of.Goals as goal
-
-pub loop-i-init : goal.loop-i-init
-loop-i-init c = search (place_start, rules)
 
 pub returns-then-item-value : goal.returns-then-item-value
 returns-then-item-value c = search (place_hit, rules)

@@ -1,25 +1,9 @@
 -- `repeats::is_row` meets its contract. Assumes nothing.
-use native.Mathlib.Omega.{arith}
-use mathlib.Core.Path.{refl, ◌∙◌}
-use lib.ListN.{length}
+use mathlib.Core.Path.{◌∙◌}
 use Rattle.sheet.specs.Bytes.{same}
 use Rattle.table.specs.Layout.{rows_of}
-use Rattle.repeats.proofs.SearchLaws.{start_at_law, start_low, scan_found, scan_on, scan_end, any_row, no_row, ends_part}
+use Rattle.repeats.proofs.SearchLaws.{scan_found, scan_on, scan_end, any_row, no_row}
 use Rattle.repeats.proofs.is_row.Goals as goal
-
-pub overflow_cast-s : goal.overflow_cast-s
-overflow_cast-s c = omega (arith, c.shared_slice_known-in-loop-i-1.given c.loop-i.i)
-
-pub is_row_at-requires : goal.is_row_at-requires
-is_row_at-requires c = let w = c.loop-i in
-    let u = c in
-    let z = c.args in
-    record {
-      last = refl;
-      all = ends_part (length z.line.now) z.rows.now c.cut-ends.result.now c.requires c.cut-ends.ensures;
-      start = start_at_law (same z.line.now) z.rows.now z.key u.count-n.result c.base_of-b.result w.i c.cut-starts.result.now w.invariant u.count-n.ensures c.base_of-b.ensures c.cut-starts.ensures c.loop-i-test.true;
-      low = start_low (same z.line.now) z.rows.now z.key u.count-n.result c.base_of-b.result w.i c.cut-starts.result.now w.invariant u.count-n.ensures c.base_of-b.ensures c.cut-starts.ensures c.loop-i-test.true (omega arith);
-    }
 
 pub returns-then-is_row_at : goal.returns-then-is_row_at
 returns-then-is_row_at c = let w = c.loop-i in

@@ -1,12 +1,7 @@
 -- `repeats::is_row` meets its contract. Assumes nothing.
-use Prim.Native.Nat.{◌-◌}
-use lib.ListN.{length}
 use Rattle.sheet.specs.Bytes.{same}
 use Rattle.repeats.proofs.SearchLaws.{Scanned}
 use Rattle.repeats.proofs.is_row.Given as goal
 
 abbrev pub invariant-loop-i : goal.invariant-loop-i
 invariant-loop-i l = Scanned (same l.line) l.rows l.key l.i
-
-abbrev pub decreases-loop-i : goal.decreases-loop-i
-decreases-loop-i l = length l.starts - l.i

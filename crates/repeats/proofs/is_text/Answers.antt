@@ -1,29 +1,13 @@
 -- `repeats::is_text` meets its contract. Assumes nothing.
-use native.Mathlib.Omega.{arith}
 use mathlib.Core.Path.{refl, ◌∙◌}
 use Prim.Native.Nat.{ℕ}
 use mathlib.Core.List.{List, ◌∷◌}
 use Rattle.sheet.specs.Bytes.{same}
 use Rattle.table.specs.Layout.{rows_of, text_row}
-use Rattle.repeats.proofs.SearchLaws.{start_at_law, start_low, scan_found, scan_on, scan_end, any_text}
+use Rattle.repeats.proofs.SearchLaws.{scan_found, scan_on, scan_end, any_text}
 use Rattle.sheet.specs.Forms.{TEXT}
 use Rattle.forms.specs.Tags.{TEXT_LINE}
 use Rattle.repeats.proofs.is_text.Goals as goal
-
-pub overflow_cast-s : goal.overflow_cast-s
-overflow_cast-s c = omega (arith, c.shared_slice_known-in-loop-i-1.given c.loop-i.i)
-
-pub is_text_at-requires : goal.is_text_at-requires
-is_text_at-requires c = let w = c.loop-i in
-    let u = c in
-    let z = c.args in
-    record {
-      last = c.end_of-x.ensures;
-      all = c.ends_of-ends.ensures;
-      start = start_at_law (λ (q : List ℕ). same (TEXT_LINE ∷ z.text.now) (text_row z.sheet.now q)) z.rows.now TEXT u.count-n.result c.base_of-b.result w.i c.cut-starts.result.now w.invariant u.count-n.ensures c.base_of-b.ensures c.cut-starts.ensures c.loop-i-test.true;
-      low = start_low (λ (q : List ℕ). same (TEXT_LINE ∷ z.text.now) (text_row z.sheet.now q)) z.rows.now TEXT u.count-n.result c.base_of-b.result w.i c.cut-starts.result.now w.invariant u.count-n.ensures c.base_of-b.ensures c.cut-starts.ensures c.loop-i-test.true (omega arith);
-      small = omega (arith, c.shared_slice_known-in-loop-i-1.given w.i);
-    }
 
 pub returns-then-is_text_at : goal.returns-then-is_text_at
 returns-then-is_text_at c = let w = c.loop-i in

@@ -1,7 +1,6 @@
 -- `repeats::is_text` meets its contract. Assumes nothing.
-use Prim.Native.Nat.{ℕ, ◌-◌}
+use Prim.Native.Nat.{ℕ}
 use mathlib.Core.List.{List, ◌∷◌}
-use lib.ListN.{length}
 use Rattle.sheet.specs.Bytes.{same}
 use Rattle.table.specs.Layout.{text_row}
 use Rattle.repeats.proofs.SearchLaws.{Scanned}
@@ -11,6 +10,3 @@ use Rattle.repeats.proofs.is_text.Given as goal
 
 abbrev pub invariant-loop-i : goal.invariant-loop-i
 invariant-loop-i l = Scanned (λ (q : List ℕ). same (TEXT_LINE ∷ l.text) (text_row l.sheet q)) l.rows TEXT l.i
-
-abbrev pub decreases-loop-i : goal.decreases-loop-i
-decreases-loop-i l = length l.starts - l.i

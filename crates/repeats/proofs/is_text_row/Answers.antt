@@ -1,10 +1,7 @@
 -- `repeats::is_text_row` meets its contract. Assumes nothing.
-use Rattle.repeats.proofs.NamedLaws.{text_not, text_same}
+use Rattle.repeats.proofs.NamedLaws.{text_same}
 use borrow.Author.Rules.{rules}
 use Rattle.repeats.proofs.is_text_row.Goals as goal
-
-pub returns-then-t-ne-TEXT_LINE : goal.returns-then-t-ne-TEXT_LINE
-returns-then-t-ne-TEXT_LINE c = search (text_not, rules)
 
 pub returns : goal.returns
 returns c = search (text_same, rules)

@@ -1,9 +1,6 @@
--- `replay::main` ends.
-use Rattle.std.proofs.Common.{◌-◌, ◌≤◌}
+-- `replay::main`: no more records agree than were read.
+use Rattle.std.proofs.Common.{◌≤◌}
 use Rattle.replay.proofs.main.Given as goal
 
 abbrev pub invariant-loop-i : goal.invariant-loop-i
 invariant-loop-i l = l.agreed ≤ l.i
-
-abbrev pub decreases-loop-i : goal.decreases-loop-i
-decreases-loop-i l = l.n - l.i

@@ -1,18 +1,21 @@
--- `pair_with`: the kind itself, or what is left of the kinds above it.
-use Rattle.rules.proofs.KindSets.{pair_own, pair_start, pair_hit, pair_on, pair_over}
+-- `pair_with`: the kind itself, or one above it.
+use mathlib.Core.Path.{◌≡◌, ◌∙◌, ap}
+use Rattle.std.proofs.Common.{rules}
+use Rattle.std.proofs.lemmas.Iterator.{YieldsList-from_slice}
+use Rattle.std.proofs.lemmas.Iterator.Search.{any_from_yields_List}
+use Rattle.cedar.specs.Types.{some_kind}
+use Rattle.rules.proofs.Rulings.{some_is}
+use Rattle.typerows.specs.Types.{above_at}
+use Rattle.fits.specs.Fit.{kind_in}
+use Rattle.rules.proofs.KindSets.{pair_own, pair_above}
 use Rattle.rules.proofs.pair_with.Goals as goal
 
-pub returns-then-is_kind : goal.returns-then-is_kind
-returns-then-is_kind c = search pair_own
+pub returns-then-has : goal.returns-then-has
+returns-then-has c = search pair_own
 
-pub loop-i-init : goal.loop-i-init
-loop-i-init c = search pair_start
-
-pub returns-then-is_kind-2 : goal.returns-then-is_kind-2
-returns-then-is_kind-2 c = search pair_hit
-
-pub loop-i-preserved : goal.loop-i-preserved
-loop-i-preserved c = search pair_on
-
-pub returns : goal.returns
-returns c = search pair_over
+pub returns-else-has : goal.returns-else-has
+returns-else-has c =
+    let f = kind_in c.args.others.now.row.now in
+    let l = c.kinds_above.result.now in
+    let e : c.any.result ≡ some_kind f (above_at c.args.rows.now c.args.kind) = any_from_yields_List f _ _ c.any.result c.any.ensures.ran (YieldsList-from_slice l cc) (λ x b q k. search rules) ∙ some_is f l ∙ ap (some_kind f) c.kinds_above.ensures in
+    search pair_above

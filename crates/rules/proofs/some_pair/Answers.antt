@@ -1,15 +1,15 @@
--- `some_pair`: what is left of the kinds decides.
-use Rattle.rules.proofs.Rulings.{some_start, some_hit, some_on, some_over}
+-- `some_pair`: each kind is asked.
+use mathlib.Core.Path.{◌∙◌, ap}
+use Rattle.std.proofs.Common.{rules}
+use Rattle.std.proofs.lemmas.Iterator.{YieldsList-from_slice}
+use Rattle.std.proofs.lemmas.Iterator.Search.{any_from_yields_List}
+use Rattle.cedar.specs.Types.{some_kind}
+use Rattle.rules.proofs.Rulings.{some_is}
+use Rattle.rules.specs.Rules.{pair_with}
 use Rattle.rules.proofs.some_pair.Goals as goal
 
-pub loop-i-init : goal.loop-i-init
-loop-i-init c = search some_start
-
-pub returns-then-pair_with : goal.returns-then-pair_with
-returns-then-pair_with c = search some_hit
-
-pub loop-i-preserved : goal.loop-i-preserved
-loop-i-preserved c = search some_on
-
 pub returns : goal.returns
-returns c = search some_over
+returns c =
+    let f = pair_with c.args.rows.now c.args.others.now.row.now in
+    let l = c.kinds.result.now in
+    any_from_yields_List f _ _ c.any.result c.any.ensures.ran (YieldsList-from_slice l cc) (λ x b q k. search rules) ∙ some_is f l ∙ ap (some_kind f) c.kinds.ensures

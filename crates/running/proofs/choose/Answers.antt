@@ -14,9 +14,9 @@ run_row-requires c = search (runnable, rules)
 
 pub loop-i-preserved : goal.loop-i-preserved
 loop-i-preserved c =
-    let run = choose_run c.requires c.count-n.ensures c.loop-i.invariant c.loop-i-test.true c.runs_on.ensures {w' = _} in
-    let skip = choose_skip c.requires c.count-n.ensures c.loop-i.invariant c.loop-i-test.true c.runs_on.ensures {w' = _} in
+    let run = choose_run c.requires c.count-i-end.ensures c.loop-i.invariant c.loop-i-test.true c.runs_on.ensures {w' = _} in
+    let skip = choose_skip c.requires c.count-i-end.ensures c.loop-i.invariant c.loop-i-test.true c.runs_on.ensures {w' = _} in
     ⊎_elim (λ e. run e (grind arith)) (λ e. skip e (grind arith)) (cases_Bool c.runs_on.result)
 
 pub returns : goal.returns
-returns c = choose_end c.requires c.count-n.ensures c.loop-i.invariant c.loop-i-test.false
+returns c = choose_end c.requires c.count-i-end.ensures c.loop-i.invariant c.loop-i-test.false

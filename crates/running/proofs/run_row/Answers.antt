@@ -4,10 +4,7 @@ use borrow.Author.Rules.{rules}
 use Rattle.running.proofs.run_row.Goals as goal
 
 pub add_row-requires : goal.add_row-requires
-add_row-requires c = let s = c in
-    let t = s in
-    let a = t in
-    run_few _ _ a.requires _ t.read-top.ensures _ _ _ _ _ _ _ s.store.ensures
+add_row-requires c = run_few _ _ c.requires _ c.read-top.ensures _ _ _ _ _ _ _ c.store.ensures
 
 pub returns : goal.returns
 returns c = search (run_is, rules)

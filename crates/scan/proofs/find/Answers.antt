@@ -1,16 +1,12 @@
 -- `scan::find` meets its contract. Assumes nothing.
-use Rattle.std.proofs.Common.{rules}
-use Rattle.scan.proofs.Scans.{finding_start, finding_here, finding_on, finding_end}
+use Rattle.std.proofs.Common.{◌≡◌, ◌+◌, ◌∙◌, ap, length}
+use Rattle.std.specs.Option.{unwrap_or}
+use Rattle.sheet.specs.Bytes.{up_to}
+use Rattle.scan.proofs.Scans.{up_to_found}
 use Rattle.scan.proofs.find.Goals as goal
 
-pub loop-i-init : goal.loop-i-init
-loop-i-init c = search (finding_start, rules)
-
-pub returns-then-bytes-i : goal.returns-then-bytes-i
-returns-then-bytes-i c = search (finding_here, rules)
-
-pub loop-i-preserved : goal.loop-i-preserved
-loop-i-preserved c = search (finding_on, rules)
-
 pub returns : goal.returns
-returns c = search (finding_end, rules)
+returns c =
+    let l = c.rest-left.result.now in
+    let q : c.unwrap_or.result ≡ up_to c.args.byte l = c.unwrap_or.ensures ∙ ap (λ o. unwrap_or o (length l)) c.first.ensures ∙ up_to_found c.args.byte l in
+    ap (λ n. c.args.from + n) (q ∙ ap (up_to c.args.byte) c.rest-left.ensures)

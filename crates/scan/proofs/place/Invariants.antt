@@ -3,8 +3,8 @@ use Rattle.std.proofs.Common.{◌-◌, length}
 use Rattle.scan.proofs.Wordlists.{Searching}
 use Rattle.scan.proofs.place.Given as goal
 
-abbrev pub invariant-loop-i : goal.invariant-loop-i
-invariant-loop-i l = Searching l.word l.list l.i l.a
+abbrev pub invariant-loop-word : goal.invariant-loop-word
+invariant-loop-word l = Searching l.word l.list l.i l.a
 
-abbrev pub decreases-loop-i : goal.decreases-loop-i
-decreases-loop-i l = length l.list - l.a
+abbrev pub decreases-loop-word : goal.decreases-loop-word
+decreases-loop-word l = length l.list - l.a

@@ -10,7 +10,7 @@ returns-then-sheet-le-ROOM c = let s = c in
     let x = c.cut-left in
     let y = c.cut-classes in
     let z = c.cut-roots in
-    let t = c.print_partial in
+    let t = c.fill_partial in
     partial_prints s.args.sheet.now s.args.rows.now s.args.log.now r.new.rows r.new.log l.new.log x.result.now y.result.now z.result.now s.args.out.now
     r.result t.result.number t.result.length t.new.out r.ensures s.requires.1 r.auto.log l.ensures x.ensures y.ensures z.ensures c.if-out-ge-MOST_ANSWER.true c.if-sheet-le-ROOM.true t.ensures
 

@@ -10,5 +10,5 @@ returns c = let s = c in
     let p₃ = c.put-3 in
     let p₄ = c.put-4 in
     with_row_is s.args.rows.now s.args.key s.args.end x.read-top.result x.read-n.result x.base_of.result
-    p₁.new.words p₂.new.words p₃.new.words p₄.new.words
+    p₁.new.items p₂.new.items p₃.new.items p₄.new.items
     x.read-top.ensures x.read-n.ensures x.base_of.ensures.0 p₁.ensures p₂.ensures p₃.ensures p₄.ensures

@@ -3,5 +3,5 @@ use Rattle.forms.proofs.Table.{node_key}
 use borrow.Author.Rules.{rules}
 use Rattle.table.proofs.key_of.Goals as goal
 
-pub returns-then-tag-le-SLOT : goal.returns-then-tag-le-SLOT
-returns-then-tag-le-SLOT c = search (node_key, rules)
+pub returns-in-21-to-49 : goal.returns-in-21-to-49
+returns-in-21-to-49 c = search (node_key, rules)

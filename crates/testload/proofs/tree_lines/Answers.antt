@@ -1,5 +1,5 @@
 -- `testload::tree_lines` meets its contract. Assumes nothing.
-use Rattle.testload.proofs.Lines.{tree_true, tree_false, tree_like}
+use Rattle.testload.proofs.Lines.{tree_true, tree_false}
 use Rattle.std.proofs.Common.{rules}
 use Rattle.testload.proofs.tree_lines.Goals as goal
 
@@ -8,6 +8,3 @@ returns-in-0 c = search (tree_true, rules)
 
 pub returns-in-1 : goal.returns-in-1
 returns-in-1 c = search (tree_false, rules)
-
-pub returns-in_default : goal.returns-in_default
-returns-in_default c = search (tree_like, rules)

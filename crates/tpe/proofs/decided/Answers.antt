@@ -2,8 +2,8 @@
 use Rattle.tpe.proofs.Ways.{decided_made, decided_kept}
 use Rattle.tpe.proofs.decided.Goals as goal
 
-pub returns-then-can_error_assuming_well_formed : goal.returns-then-can_error_assuming_well_formed
-returns-then-can_error_assuming_well_formed c = search decided_kept
+pub returns-then-can_error : goal.returns-then-can_error
+returns-then-can_error c = search decided_kept
 
 pub returns : goal.returns
 returns c = search decided_made

@@ -1,12 +1,6 @@
--- `is_above`: what is found, or what is left of the shape's row, decides.
-use Rattle.typerows.proofs.Typings.{above_end, above_on, above_start}
+-- `is_above`: the kinds above are searched.
+use Rattle.typerows.proofs.Typings.{above_is}
 use Rattle.typerows.proofs.is_above.Goals as goal
 
-pub loop-i-init : goal.loop-i-init
-loop-i-init c = search above_start
-
-pub loop-i-preserved : goal.loop-i-preserved
-loop-i-preserved c = search above_on
-
 pub returns : goal.returns
-returns c = search above_end
+returns c = search above_is

@@ -1,5 +1,5 @@
 -- `join_places`: what is left of the set is asked.
-use Prim.Native.Nat.{◌-◌, ◌*◌}
+use Prim.Native.Nat.{◌*◌}
 use mathlib.Core.Path.{◌≡◌}
 use lib.ListN.{length}
 use Rattle.typesets.specs.Sets.{TYPE_WORDS}
@@ -8,6 +8,3 @@ use Rattle.typesets.proofs.join_places.Given as goal
 
 abbrev pub invariant-loop-w : goal.invariant-loop-w
 invariant-loop-w l = Gone l.images l.slot l.records l.initial.reached l.reached (l.w * 32) × (length l.reached ≡ TYPE_WORDS)
-
-abbrev pub decreases-loop-w : goal.decreases-loop-w
-decreases-loop-w l = TYPE_WORDS - l.w

@@ -1,7 +1,6 @@
 -- `uses::uses_with` meets its contract. Assumes nothing.
 use Rattle.uses.proofs.UnderLaws.{spent_sum}
-use borrow.Author.Rules.{rules}
 use Rattle.uses.proofs.uses_with.Goals as goal
 
 pub returns : goal.returns
-returns c = search (spent_sum, rules)
+returns c = spent_sum _ _ _ _ _ _ _ c.read.ensures c.item.ensures c.noted.ensures c.sum_of.ensures

@@ -1,16 +1,12 @@
 -- `valued::all_values` meets its contract. Assumes nothing.
-use Rattle.valued.proofs.Valued.{valued_start, valued_end, valued_no, valued_more}
-use borrow.Author.Rules.{rules}
+use mathlib.Core.Path.{◌∙◌}
+use Rattle.std.proofs.lemmas.Iterator.{YieldsList-from_slice}
+use Rattle.std.proofs.lemmas.Iterator.Search.{all_from_yields_List}
+use Rattle.valued.proofs.Valued.{is_value, valued_listed}
+use Rattle.std.proofs.Common.{rules, tests}
 use Rattle.valued.proofs.all_values.Goals as goal
 
-pub loop-i-init : goal.loop-i-init
-loop-i-init c = search (valued_start, rules)
-
-pub loop-i-preserved : goal.loop-i-preserved
-loop-i-preserved c = search (valued_more, rules)
-
-pub returns-then-operands-i-lt-ROW : goal.returns-then-operands-i-lt-ROW
-returns-then-operands-i-lt-ROW c = search (valued_end, rules)
-
-pub returns-then-operands-i-ne-VALUE_ROW : goal.returns-then-operands-i-ne-VALUE_ROW
-returns-then-operands-i-ne-VALUE_ROW c = search (valued_no, rules)
+pub returns : goal.returns
+returns c =
+    all_from_yields_List is_value _ _ _ c.all.ensures.ran (YieldsList-from_slice c.as_chunks.result.0.now cc) (λ x b q k. search (rules, tests))
+    ∙ valued_listed c.args.operands.now c.as_chunks.result.0.now c.as_chunks.ensures.front

@@ -1,5 +1,5 @@
 -- `walk::walk_long` meets its contract. Assumes nothing.
-use Rattle.firsts.specs.Firsts.{CELLS}
+use Rattle.firsts.specs.declared.TheConstants.{CELLS}
 use Rattle.firsts.proofs.Leading.{firsts_none}
 use Rattle.walk.proofs.walk_long.Goals as goal
 

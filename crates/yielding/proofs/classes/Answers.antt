@@ -1,13 +1,10 @@
 -- `yielding::classes` meets its contract. Assumes nothing.
-use Rattle.yielding.proofs.Turning.{classes_start, classes_more, classes_end}
+use Rattle.yielding.proofs.Turning.{classes_more, classes_end}
 use borrow.Author.Rules.{rules}
 use Rattle.yielding.proofs.classes.Goals as goal
 
-pub loop-i-init : goal.loop-i-init
-loop-i-init c = (search (classes_start, rules), search rules, search rules)
-
 pub loop-i-preserved : goal.loop-i-preserved
-loop-i-preserved c = (search (classes_more, rules), search rules, search rules)
+loop-i-preserved c = (search (classes_more, rules), search rules)
 
 pub returns : goal.returns
 returns c = search (classes_end, rules)

@@ -1,16 +1,13 @@
 -- `yielding::start_in` meets its contract. Assumes nothing.
-use Rattle.yielding.proofs.Turning.{back_start, back_none, back_end, back_more}
+use Rattle.yielding.proofs.Turning.{back_none, back_end, back_more}
 use borrow.Author.Rules.{rules}
 use Rattle.yielding.proofs.start_in.Goals as goal
-
-pub loop-n-init : goal.loop-n-init
-loop-n-init c = search (back_start, rules)
 
 pub loop-n-preserved : goal.loop-n-preserved
 loop-n-preserved c = search (back_more, rules)
 
-pub returns-then-n-eq0 : goal.returns-then-n-eq0
-returns-then-n-eq0 c = search (back_none, rules)
-
 pub returns-then-left-eq0 : goal.returns-then-left-eq0
 returns-then-left-eq0 c = search (back_end, rules)
+
+pub returns : goal.returns
+returns c = search (back_none, rules)

@@ -4,6 +4,3 @@ use Rattle.yielding.proofs.start_in.Given as goal
 
 abbrev pub invariant-loop-n : goal.invariant-loop-n
 invariant-loop-n l = Backing l.stack l.words l.n l.left
-
-abbrev pub decreases-loop-n : goal.decreases-loop-n
-decreases-loop-n l = l.n

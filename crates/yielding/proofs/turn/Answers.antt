@@ -1,10 +1,6 @@
 -- `yielding::turn` meets its contract. Assumes nothing.
-use Rattle.yielding.proofs.Turning.{turn_value, turn_error, turn_left, start_low}
-use borrow.Author.Rules.{rules}
+use Rattle.yielding.proofs.Turning.{turn_value, turn_error, turn_left}
 use Rattle.yielding.proofs.turn.Goals as goal
-
-pub left-yielded-requires : goal.left-yielded-requires
-left-yielded-requires c = record { room = search rules; start_le_top = search (start_low, rules) }
 
 pub returns-in-0 : goal.returns-in-0
 returns-in-0 c = search turn_value

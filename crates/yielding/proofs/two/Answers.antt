@@ -1,17 +1,12 @@
 -- `yielding::two` meets its contract. Assumes nothing.
 use Rattle.yielding.proofs.Turning.{two_left, two_right, two_on}
-use Rattle.value.proofs.ClearLaws.{clear_none}
-use borrow.Author.Rules.{rules}
 use Rattle.yielding.proofs.two.Goals as goal
 
-pub returns-in_default : goal.returns-in_default
-returns-in_default c = search two_left
+pub returns-in_err-first : goal.returns-in_err-first
+returns-in_err-first c = two_left _ _ _ _ _ c.in_err-first.was _ c.from_residual.ensures.0
 
-pub returns-in_default-right : goal.returns-in_default-right
-returns-in_default-right c = search two_right
-
-pub apply_two-requires : goal.apply_two-requires
-apply_two-requires c = record { le_tag = search rules; clear = search clear_none }
+pub returns-in_err-second : goal.returns-in_err-second
+returns-in_err-second c = two_right _ _ _ _ _ _ c.in_ok-first.was c.in_err-second.was _ c.from_residual-in_err-second.ensures.0
 
 pub returns : goal.returns
-returns c = search two_on
+returns c = two_on _ _ _ _ _ _ _ _ c.in_ok-first.was c.in_ok-second.was c.apply_two.ensures

@@ -1,22 +1,26 @@
 -- `listing::nodes::rest_items` meets its contract. Assumes nothing.
-use Rattle.listing.proofs.NodeLines.{rest_is, rest_like, rest_get, rest_has, rest_path, rest_over}
+use Rattle.listing.proofs.NodeLines.{rest_second, rest_like, rest_path, rest_over}
 use borrow.Author.Rules.{rules}
+use native.Mathlib.Omega.{arith}
+use Rattle.listing.proofs.nodes.rest_items.Goals.{in-39-1, in_default+else-this-lt39+then-this-lt43}
 use Rattle.listing.proofs.nodes.rest_items.Goals as goal
-
-pub returns-in-39 : goal.returns-in-39
-returns-in-39 c = search (rest_is, rules)
 
 pub returns-in-40 : goal.returns-in-40
 returns-in-40 c = search (rest_like, rules)
 
-pub returns-in-41 : goal.returns-in-41
-returns-in-41 c = search (rest_get, rules)
-
-pub returns-in-42 : goal.returns-in-42
-returns-in-42 c = search (rest_has, rules)
-
 pub returns-in-43 : goal.returns-in-43
 returns-in-43 c = search (rest_path, rules)
 
+pub returns-in-39 : goal.returns-in-39
+returns-in-39 c =
+    let x = c.args in
+    elim c.in-39-1.branch [
+      | in-39-1 w ↦ rest_second _ x.line.now x.passed c.tag.ensures (omega arith) (omega arith) (omega arith) c.second.ensures
+      | in_default+else-this-lt39+then-this-lt43 w ↦ rest_second _ x.line.now x.passed c.tag.ensures (omega arith) (omega arith) (omega arith) c.second.ensures
+    ]
+
 pub returns-in_default : goal.returns-in_default
-returns-in_default c = let x = c.args in rest_over x.out.now x.at _ x.line.now x.passed (search rules) (search rules) c.tag-t.ensures (search rules) (search rules) (search rules) (search rules) (search rules)
+returns-in_default c = let x = c.args in rest_over _ x.line.now x.passed c.tag.ensures (omega arith) (omega arith) (omega arith) (omega arith) (omega arith)
+
+pub returns-in_default-2 : goal.returns-in_default-2
+returns-in_default-2 c = let x = c.args in rest_over _ x.line.now x.passed c.tag.ensures (omega arith) (omega arith) (omega arith) (omega arith) (omega arith)

@@ -1,22 +1,17 @@
 -- `listing::values::entries` meets its contract. Assumes nothing.
-use Rattle.print.proofs.Writing.{written_length}
-use mathlib.Core.List.{List}
-use Prim.Native.Nat.{ℕ}
-use Rattle.listing.specs.Values.{after}
-use Rattle.listing.proofs.Made.{along_start, entries_on, entries_end}
-use Rattle.sheet.specs.Answer.{entry_items}
-use Rattle.sheet.specs.State.{entries_of}
-use borrow.Author.Rules.{rules}
+use mathlib.Core.Path.{refl}
+use mathlib.Core.List.{[], ◌∷◌, ◌++◌}
+use Prim.Native.Nat.{◌/◌}
+use lib.ListN.{length, get_or}
+use Rattle.sheet.specs.Bytes.{digits}
+use Rattle.print.proofs.Outs.{prints_as}
+use Rattle.listing.proofs.Printing.{each_on, each_end}
+use Rattle.listing.proofs.Made.{pairs_out, pairs_law}
+use mathlib.Core.Path.{ap, ◌∙◌}
 use Rattle.listing.proofs.values.entries.Goals as goal
 
-pub loop-i-init : goal.loop-i-init
-loop-i-init c = let x = c.args in along_start (λ (m : List ℕ). after (entry_items (entries_of m))) x.words.now x.out.now x.at (search rules) (search rules)
-
-pub loop-i-preserved : goal.loop-i-preserved
-loop-i-preserved c = search (entries_on, rules)
-
-pub shape_of-out : goal.shape_of-out
-shape_of-out c = written_length c.loop-i.invariant.print.written
+pub loop-pair-preserved : goal.loop-pair-preserved
+loop-pair-preserved c = each_on pairs_out _ _ c.loop-pair.invariant (λ q. (44 ∷ digits (get_or q 0 0)) ++ (44 ∷ digits (get_or q 1 0))) (λ q m. refl) [] c.loop-pair-test.true c.entry.ensures
 
 pub returns : goal.returns
-returns c = search (entries_end, rules)
+returns c = let l = c.args.words.now in prints_as (each_end pairs_out _ _ c.loop-pair.invariant refl c.loop-pair-test.false) (ap pairs_out c.as_chunks.ensures.front ∙ pairs_law (length l / 2) l refl)

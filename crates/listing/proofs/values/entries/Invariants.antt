@@ -1,14 +1,7 @@
--- `listing::values::entries` meets its contract. Assumes nothing.
-use Prim.Native.Nat.{◌-◌}
-use lib.ListN.{length, drop}
-use Rattle.listing.specs.Values.{after}
-use Rattle.listing.proofs.Made.{Along}
-use Rattle.sheet.specs.Answer.{entry_items}
-use Rattle.sheet.specs.State.{entries_of}
+use lib.ListN.{drop}
+use Rattle.listing.proofs.Printing.{Printing}
+use Rattle.listing.proofs.Made.{pairs_out}
 use Rattle.listing.proofs.values.entries.Given as goal
 
-abbrev pub invariant-loop-i : goal.invariant-loop-i
-invariant-loop-i l = Along (after (entry_items (entries_of l.words))) (after (entry_items (entries_of (drop l.i l.words)))) l.initial.out l.at l.out l.k l.i (length l.words)
-
-abbrev pub decreases-loop-i : goal.decreases-loop-i
-decreases-loop-i l = length l.words - l.i
+abbrev pub invariant-loop-pair : goal.invariant-loop-pair
+invariant-loop-pair l = Printing (pairs_out l.pairs) (pairs_out (drop l.pair-index l.pairs)) l.initial.out l.out

@@ -1,21 +1,12 @@
 -- `listing::values::numbers` meets its contract. Assumes nothing.
-use Rattle.print.proofs.Writing.{written_length}
-use mathlib.Core.List.{List}
+use mathlib.Core.Path.{refl}
+use mathlib.Core.List.{List, ◌∷◌}
 use Prim.Native.Nat.{ℕ}
-use Rattle.listing.specs.Values.{after}
-use Rattle.listing.proofs.Made.{along_start, numbers_on, numbers_end}
+use Rattle.sheet.specs.Bytes.{digits}
 use Rattle.sheet.specs.Answer.{numbers}
-use borrow.Author.Rules.{rules}
+use Rattle.listing.specs.Values.{after}
+use Rattle.listing.proofs.Printing.{each_on}
 use Rattle.listing.proofs.values.numbers.Goals as goal
 
-pub loop-i-init : goal.loop-i-init
-loop-i-init c = let x = c.args in along_start (λ (m : List ℕ). after (numbers m)) x.words.now x.out.now x.at (search rules) (search rules)
-
-pub loop-i-preserved : goal.loop-i-preserved
-loop-i-preserved c = search (numbers_on, rules)
-
-pub shape_of-out : goal.shape_of-out
-shape_of-out c = written_length c.loop-i.invariant.print.written
-
-pub returns : goal.returns
-returns c = search (numbers_end, rules)
+pub loop-word-preserved : goal.loop-word-preserved
+loop-word-preserved c = each_on (λ (m : List ℕ). after (numbers m)) c.args.words.now _ c.loop-word.invariant (λ x. 44 ∷ digits x) (λ x m. refl) 0 c.loop-word-test.true c.number_after.ensures

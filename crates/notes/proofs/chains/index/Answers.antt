@@ -1,5 +1,5 @@
 -- `notes::chains::index` meets its contract. Assumes nothing.
-use Rattle.notes.proofs.Chaining.{chaining_start, chaining_on, chaining_end}
+use Rattle.notes.proofs.Chaining.{chaining_start, chaining_on}
 use borrow.Author.Rules.{rules}
 use Rattle.notes.proofs.chains.index.Goals as goal
 
@@ -8,6 +8,3 @@ loop-i-init c = search (chaining_start, rules)
 
 pub loop-i-preserved : goal.loop-i-preserved
 loop-i-preserved c = search (chaining_on, rules)
-
-pub returns : goal.returns
-returns c = search (chaining_end, rules)

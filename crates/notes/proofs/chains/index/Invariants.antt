@@ -4,6 +4,3 @@ use Rattle.notes.proofs.chains.index.Given as goal
 
 abbrev pub invariant-loop-i : goal.invariant-loop-i
 invariant-loop-i l = Chaining l.rows l.initial.heads l.initial.links l.heads l.links l.n l.i l.end
-
-abbrev pub decreases-loop-i : goal.decreases-loop-i
-decreases-loop-i l = l.i

@@ -1,18 +1,7 @@
 -- `notes::entries::rises` meets its contract. Assumes nothing.
-use mathlib.Core.Path.{refl}
-use native.Mathlib.Omega.{arith}
 use Rattle.notes.proofs.Leaping.{rises_end, rises_odd, rises_off, rises_on}
 use borrow.Author.Rules.{rules}
 use Rattle.notes.proofs.entries.rises.Goals as goal
-
-pub loop-i-init : goal.loop-i-init
-loop-i-init c = record { near = search rules; left = refl }
-
-pub overflow_cast-x : goal.overflow_cast-x
-overflow_cast-x c = omega (arith, c.shared_slice_known-1.given c.loop-i.i)
-
-pub overflow_add-low : goal.overflow_add-low
-overflow_add-low c = omega (arith, c.shared_slice_known-1.given c.loop-i.i)
 
 pub loop-i-preserved : goal.loop-i-preserved
 loop-i-preserved c = search (rises_on, rules)

@@ -1,12 +1,8 @@
 -- `page::cells::spaces` meets its contract. Assumes nothing.
-use Prim.Native.Nat.{◌-◌}
 use Rattle.paged.specs.Page.{spaces}
-use Rattle.print.proofs.Printing.{Printing}
+use Rattle.listing.proofs.Printing.{Printing}
 use Rattle.page.proofs.Columns.{spaces_left}
 use Rattle.page.proofs.cells.spaces.Given as goal
 
 abbrev pub invariant-loop-i : goal.invariant-loop-i
-invariant-loop-i l = Printing (spaces l.n) (spaces_left l.n l.i) l.initial.out l.at l.out l.k
-
-abbrev pub decreases-loop-i : goal.decreases-loop-i
-decreases-loop-i l = l.n - l.i
+invariant-loop-i l = Printing (spaces l.n) (spaces_left l.n l.i) l.initial.out l.out

@@ -14,34 +14,34 @@ returns-in_default c = let k = c.key_at in
     line_read_law _ _ _ (line_unkeyed a.sheet.now a.self r.if-at-sheet.false r.rest-s.result.now r.rest-s.ensures k.result k.ensures.is c.in_default.is)
 
 pub overflow_add-v : goal.overflow_add-v
-overflow_add-v c = let a = c.args in let r = c.rest-s.result.now in let g = c.key_at in omega (arith, (line_room a.sheet.now a.self c.if-at-sheet.false r c.rest-s.ensures g.result g.ensures.is c.in-Keyed.key c.in-Keyed.n c.in-Keyed.is).0)
+overflow_add-v c = let a = c.args in let r = c.rest-s.result.now in let g = c.key_at in omega (arith, (line_room a.sheet.now a.self c.if-at-sheet.false r c.rest-s.ensures g.result g.ensures.is c.in-Some.key c.in-Some.n c.in-Some.is).0)
 
 pub slice_bounds-v-count : goal.slice_bounds-v-count
-slice_bounds-v-count c = let a = c.args in let r = c.rest-s.result.now in let g = c.key_at in omega (arith, (line_room a.sheet.now a.self c.if-at-sheet.false r c.rest-s.ensures g.result g.ensures.is c.in-Keyed.key c.in-Keyed.n c.in-Keyed.is).0)
+slice_bounds-v-count c = let a = c.args in let r = c.rest-s.result.now in let g = c.key_at in omega (arith, (line_room a.sheet.now a.self c.if-at-sheet.false r c.rest-s.ensures g.result g.ensures.is c.in-Some.key c.in-Some.n c.in-Some.is).0)
 
 pub slice_bounds-v-start : goal.slice_bounds-v-start
-slice_bounds-v-start c = let a = c.args in let r = c.rest-s.result.now in let g = c.key_at in omega (arith, (line_room a.sheet.now a.self c.if-at-sheet.false r c.rest-s.ensures g.result g.ensures.is c.in-Keyed.key c.in-Keyed.n c.in-Keyed.is).0)
+slice_bounds-v-start c = let a = c.args in let r = c.rest-s.result.now in let g = c.key_at in omega (arith, (line_room a.sheet.now a.self c.if-at-sheet.false r c.rest-s.ensures g.result g.ensures.is c.in-Some.key c.in-Some.n c.in-Some.is).0)
 
 pub returns-then-e-v : goal.returns-then-e-v
-returns-then-e-v c = let a = c.args in let r = c.rest-s.result.now in let g = c.key_at in let p = c.printable_end-e in line_read_law _ _ _ (line_unclosed a.sheet.now a.self c.if-at-sheet.false r c.rest-s.ensures g.result g.ensures.is c.in-Keyed.key c.in-Keyed.n c.in-Keyed.is _ refl p.result p.ensures c.if-e-v.true)
+returns-then-e-v c = let a = c.args in let r = c.rest-s.result.now in let g = c.key_at in let p = c.printable_end-e in line_read_law _ _ _ (line_unclosed a.sheet.now a.self c.if-at-sheet.false r c.rest-s.ensures g.result g.ensures.is c.in-Some.key c.in-Some.n c.in-Some.is _ refl p.result p.ensures c.if-e-v.true)
 
 pub returns-then-v-e-ne10 : goal.returns-then-v-e-ne10
-returns-then-v-e-ne10 c = let a = c.args in let r = c.rest-s.result.now in let g = c.key_at in let p = c.printable_end-e in line_read_law _ _ _ (line_broken a.sheet.now a.self c.if-at-sheet.false r c.rest-s.ensures g.result g.ensures.is c.in-Keyed.key c.in-Keyed.n c.in-Keyed.is _ refl p.result p.ensures c.if-v-e-ne10.true)
+returns-then-v-e-ne10 c = let a = c.args in let r = c.rest-s.result.now in let g = c.key_at in let p = c.printable_end-e in line_read_law _ _ _ (line_broken a.sheet.now a.self c.if-at-sheet.false r c.rest-s.ensures g.result g.ensures.is c.in-Some.key c.in-Some.n c.in-Some.is _ refl p.result p.ensures c.if-v-e-ne10.true)
 
 pub overflow_add-end : goal.overflow_add-end
-overflow_add-end c = let a = c.args in let r = c.rest-s.result.now in let g = c.key_at in let p = c.printable_end-e in omega (arith, line_inside a.sheet.now a.self c.if-at-sheet.false r c.rest-s.ensures g.result g.ensures.is c.in-Keyed.key c.in-Keyed.n c.in-Keyed.is _ refl p.result p.ensures c.if-e-v.false)
+overflow_add-end c = let a = c.args in let r = c.rest-s.result.now in let g = c.key_at in let p = c.printable_end-e in omega (arith, line_inside a.sheet.now a.self c.if-at-sheet.false r c.rest-s.ensures g.result g.ensures.is c.in-Some.key c.in-Some.n c.in-Some.is _ refl p.result p.ensures c.if-e-v.false)
 
 pub overflow_add-end-2 : goal.overflow_add-end-2
-overflow_add-end-2 c = let a = c.args in let r = c.rest-s.result.now in let g = c.key_at in let p = c.printable_end-e in omega (arith, line_inside a.sheet.now a.self c.if-at-sheet.false r c.rest-s.ensures g.result g.ensures.is c.in-Keyed.key c.in-Keyed.n c.in-Keyed.is _ refl p.result p.ensures c.if-e-v.false)
+overflow_add-end-2 c = let a = c.args in let r = c.rest-s.result.now in let g = c.key_at in let p = c.printable_end-e in omega (arith, line_inside a.sheet.now a.self c.if-at-sheet.false r c.rest-s.ensures g.result g.ensures.is c.in-Some.key c.in-Some.n c.in-Some.is _ refl p.result p.ensures c.if-e-v.false)
 
 pub overflow_add-end-3 : goal.overflow_add-end-3
-overflow_add-end-3 c = let a = c.args in let r = c.rest-s.result.now in let g = c.key_at in let p = c.printable_end-e in omega (arith, line_inside a.sheet.now a.self c.if-at-sheet.false r c.rest-s.ensures g.result g.ensures.is c.in-Keyed.key c.in-Keyed.n c.in-Keyed.is _ refl p.result p.ensures c.if-e-v.false)
+overflow_add-end-3 c = let a = c.args in let r = c.rest-s.result.now in let g = c.key_at in let p = c.printable_end-e in omega (arith, line_inside a.sheet.now a.self c.if-at-sheet.false r c.rest-s.ensures g.result g.ensures.is c.in-Some.key c.in-Some.n c.in-Some.is _ refl p.result p.ensures c.if-e-v.false)
 
 pub overflow_add-result : goal.overflow_add-result
-overflow_add-result c = let a = c.args in let r = c.rest-s.result.now in let g = c.key_at in let p = c.printable_end-e in omega (arith, line_inside a.sheet.now a.self c.if-at-sheet.false r c.rest-s.ensures g.result g.ensures.is c.in-Keyed.key c.in-Keyed.n c.in-Keyed.is _ refl p.result p.ensures c.if-e-v.false)
+overflow_add-result c = let a = c.args in let r = c.rest-s.result.now in let g = c.key_at in let p = c.printable_end-e in omega (arith, line_inside a.sheet.now a.self c.if-at-sheet.false r c.rest-s.ensures g.result g.ensures.is c.in-Some.key c.in-Some.n c.in-Some.is _ refl p.result p.ensures c.if-e-v.false)
 
 pub overflow_add-result-2 : goal.overflow_add-result-2
-overflow_add-result-2 c = let a = c.args in let r = c.rest-s.result.now in let g = c.key_at in let p = c.printable_end-e in omega (arith, line_inside a.sheet.now a.self c.if-at-sheet.false r c.rest-s.ensures g.result g.ensures.is c.in-Keyed.key c.in-Keyed.n c.in-Keyed.is _ refl p.result p.ensures c.if-e-v.false)
+overflow_add-result-2 c = let a = c.args in let r = c.rest-s.result.now in let g = c.key_at in let p = c.printable_end-e in omega (arith, line_inside a.sheet.now a.self c.if-at-sheet.false r c.rest-s.ensures g.result g.ensures.is c.in-Some.key c.in-Some.n c.in-Some.is _ refl p.result p.ensures c.if-e-v.false)
 
 pub returns : goal.returns
-returns c = let a = c.args in let r = c.rest-s.result.now in let g = c.key_at in let p = c.printable_end-e in line_read_law _ _ _ (line_found_law a.sheet.now a.self c.if-at-sheet.false r c.rest-s.ensures g.result g.ensures.is c.in-Keyed.key c.in-Keyed.n c.in-Keyed.is _ refl p.result p.ensures c.if-v-e-ne10.false _ c.line_after.ensures)
+returns c = let a = c.args in let r = c.rest-s.result.now in let g = c.key_at in let p = c.printable_end-e in line_read_law _ _ _ (line_found_law a.sheet.now a.self c.if-at-sheet.false r c.rest-s.ensures g.result g.ensures.is c.in-Some.key c.in-Some.n c.in-Some.is _ refl p.result p.ensures c.if-v-e-ne10.false _ c.saturating_add.ensures)

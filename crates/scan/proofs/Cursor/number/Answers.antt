@@ -7,22 +7,20 @@ use Rattle.scan.proofs.Cursor.number.Goals as goal
 pub returns-then-at-bytes : goal.returns-then-at-bytes
 returns-then-at-bytes c = number_read _ _ _ (search (number_over, rules))
 
-pub overflow_add-result : goal.overflow_add-result
-overflow_add-result c = let r = c in
-    let a = r.args in
-    let f = c.front_index-d in
-    let d = c.in-Index in
-    omega (arith, number_room a.bytes.now a.self r.if-at-bytes.false r.rest.result.now r.rest.ensures f.result f.ensures d.n d.taken d.is)
+pub returns-in_err-n : goal.returns-in_err-n
+returns-in_err-n c = number_read _ _ _ (search (number_other, rules))
 
-pub overflow_add-result-in-Index : goal.overflow_add-result-in-Index
-overflow_add-result-in-Index c = let r = c in
-    let a = r.args in
-    let f = c.front_index-d in
-    let d = c.in-Index in
-    omega (arith, number_room a.bytes.now a.self r.if-at-bytes.false r.rest.result.now r.rest.ensures f.result f.ensures d.n d.taken d.is)
+pub overflow_add-next : goal.overflow_add-next
+overflow_add-next c =
+    let a = c.args in
+    let d = c.in_ok-n in
+    omega (arith, number_room a.bytes.now a.self c.if-at-bytes.false c.rest.result.now c.rest.ensures c.front_index.result c.front_index.ensures d.n d.taken d.was)
 
-pub returns-in-Index : goal.returns-in-Index
-returns-in-Index c = number_read _ _ _ (search (number_value, rules))
+pub overflow_add-next-2 : goal.overflow_add-next-2
+overflow_add-next-2 c =
+    let a = c.args in
+    let d = c.in_ok-n in
+    omega (arith, number_room a.bytes.now a.self c.if-at-bytes.false c.rest.result.now c.rest.ensures c.front_index.result c.front_index.ensures d.n d.taken d.was)
 
-pub returns-in-Other : goal.returns-in-Other
-returns-in-Other c = number_read _ _ _ (search (number_other, rules))
+pub returns : goal.returns
+returns c = number_read _ _ _ (search (number_value, rules))

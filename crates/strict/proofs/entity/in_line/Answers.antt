@@ -1,5 +1,5 @@
 -- `strict::entity::in_line` meets its contract. Assumes nothing.
-use Rattle.strict.proofs.Parents.{line_here, line_none, line_above}
+use Rattle.strict.proofs.Parents.{line_here, line_none}
 use borrow.Author.Rules.{rules}
 use Rattle.strict.proofs.entity.in_line.Goals as goal
 
@@ -8,6 +8,3 @@ returns-then-contains c = search (line_here, rules)
 
 pub returns-then-list-eq0 : goal.returns-then-list-eq0
 returns-then-list-eq0 c = search (line_none, rules)
-
-pub returns : goal.returns
-returns c = search (line_above, rules)

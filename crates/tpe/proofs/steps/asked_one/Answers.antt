@@ -2,8 +2,8 @@
 use Rattle.tpe.proofs.Worked.{rule_silent, rule_says}
 use Rattle.tpe.proofs.steps.asked_one.Goals as goal
 
-pub returns-in_default : goal.returns-in_default
-returns-in_default c = search rule_silent
+pub returns-in-None : goal.returns-in-None
+returns-in-None c = search rule_silent
 
-pub returns : goal.returns
-returns c = search rule_says
+pub returns-in-Some : goal.returns-in-Some
+returns-in-Some c = search rule_says

@@ -9,8 +9,8 @@ loop-i-init c = search (seek_start, rules)
 pub loop-i-preserved : goal.loop-i-preserved
 loop-i-preserved c = search (seek_on, rules)
 
-pub returns-then-i-n : goal.returns-then-i-n
-returns-then-i-n c = search (seek_end, rules)
+pub returns : goal.returns
+returns c = search (seek_end, rules)
 
-pub returns-then-same : goal.returns-then-same
-returns-then-same c = search (seek_hit, rules)
+pub returns-then-eq : goal.returns-then-eq
+returns-then-eq c = search (seek_hit, rules)

@@ -1,10 +1,6 @@
 -- `tpe::steps::entity_type` meets its contract. Assumes nothing.
-use Prim.Native.Nat.{◌-◌}
 use Rattle.tpe.proofs.Walks.{Seeking}
 use Rattle.tpe.proofs.steps.entity_type.Given as goal
 
 abbrev pub invariant-loop-i : goal.invariant-loop-i
 invariant-loop-i l = Seeking l.rows l.kind l.n l.i
-
-abbrev pub decreases-loop-i : goal.decreases-loop-i
-decreases-loop-i l = l.n - l.i

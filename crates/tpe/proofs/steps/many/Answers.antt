@@ -2,11 +2,11 @@
 use Rattle.tpe.proofs.Settling.{many_made, many_error, many_open}
 use Rattle.tpe.proofs.steps.many.Goals as goal
 
-pub returns-in-0 : goal.returns-in-0
-returns-in-0 c = search many_made
+pub returns-in-Values : goal.returns-in-Values
+returns-in-Values c = search many_made
 
-pub returns-in-1 : goal.returns-in-1
-returns-in-1 c = search many_error
+pub returns-in-Error : goal.returns-in-Error
+returns-in-Error c = search many_error
 
-pub returns-in_default : goal.returns-in_default
-returns-in_default c = search many_open
+pub returns-in-Open : goal.returns-in-Open
+returns-in-Open c = search many_open

@@ -1,5 +1,5 @@
 -- `line_typed`: one law for each key.
-use Rattle.typing.proofs.KeyRules.{line_context, line_entity, line_link, line_node, plain}
+use Rattle.typing.proofs.KeyRules.{line_context, line_entity, line_link, line_node}
 use Rattle.typing.proofs.lines.line_typed.Goals as goal
 
 pub returns-in-6 : goal.returns-in-6
@@ -13,6 +13,3 @@ returns-in-12 c = search line_node
 
 pub returns-in-14 : goal.returns-in-14
 returns-in-14 c = search line_link
-
-pub returns-in_default : goal.returns-in_default
-returns-in_default c = search plain

@@ -4,13 +4,13 @@ use Rattle.typing.proofs.LinkLaws.{below_end, below_off, below_on, below_start, 
 use Rattle.typing.proofs.links.+below_fits_child_fits_under_fits.Goals as goal
 
 pub below_fits-loop-j-init : goal.below_fits-loop-j-init
-below_fits-loop-j-init t c = (search below_start, search rules, search rules)
+below_fits-loop-j-init t c = (search below_start, search rules)
 
 pub below_fits-returns-then-not-child_fits : goal.below_fits-returns-then-not-child_fits
 below_fits-returns-then-not-child_fits t c = search below_off
 
 pub below_fits-loop-j-preserved : goal.below_fits-loop-j-preserved
-below_fits-loop-j-preserved t c = (search below_on, search rules, search rules)
+below_fits-loop-j-preserved t c = (search below_on, search rules)
 
 pub below_fits-returns : goal.below_fits-returns
 below_fits-returns t c = search below_end

@@ -6,7 +6,7 @@ pub returns-then-sort-ne-BOOL_SORT : goal.returns-then-sort-ne-BOOL_SORT
 returns-then-sort-ne-BOOL_SORT c = search contains_no
 
 pub returns-in_default : goal.returns-in_default
-returns-in_default c = search contains_none
+returns-in_default c = search (contains_none, c.in_default.ensures)
 
 pub returns : goal.returns
-returns c = search contains_some
+returns c = search (contains_some, c.in-Some.ensures)

@@ -11,7 +11,7 @@ returns-then-v-n c = search (find_given, rules)
 pub overflow_add-result : goal.overflow_add-result
 overflow_add-result c = let k = c in
     let s = k in
-    omega (arith, found_most s.args.line.now s.args.rows.now MADE c.find_in.result c.find_in.ensures, k.shared_slice_known-1.given MADE)
+    omega (arith, found_most s.args.line.now s.args.rows.now MADE c.find.result c.find.ensures, k.shared_slice_known-1.given MADE)
 
 pub returns : goal.returns
 returns c = search (find_made, rules)

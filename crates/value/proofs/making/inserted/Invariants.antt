@@ -4,6 +4,3 @@ use Rattle.value.proofs.making.inserted.Given as goal
 
 abbrev pub invariant-loop-i : goal.invariant-loop-i
 invariant-loop-i l = Inserting l.initial.log l.at l.start l.top l.log l.p l.i
-
-abbrev pub decreases-loop-i : goal.decreases-loop-i
-decreases-loop-i l = l.i

@@ -1,13 +1,10 @@
 -- `value::making::least` meets its contract. Assumes nothing.
-use Rattle.value.proofs.Sorting.{lowering_start, lowering_on, lowering_end}
-use borrow.Author.Rules.{rules}
+use mathlib.Core.List.{[]}
+use Rattle.value.proofs.Sorting.{lowering_on, lowering_end}
 use Rattle.value.proofs.making.least.Goals as goal
 
-pub loop-i-init : goal.loop-i-init
-loop-i-init c = search (lowering_start, rules)
-
-pub loop-i-preserved : goal.loop-i-preserved
-loop-i-preserved c = search (lowering_on, rules)
+pub loop-line-preserved : goal.loop-line-preserved
+loop-line-preserved c = lowering_on _ _ _ _ c.loop-line.invariant [] _ c.loop-line-test.true c.lower-best.ensures
 
 pub returns : goal.returns
-returns c = search (lowering_end, rules)
+returns c = lowering_end _ _ _ _ c.loop-line.invariant c.loop-line-test.false c.args.words.now c.as_chunks.ensures.front

@@ -10,8 +10,8 @@ loop-i-init c = search (rows_start, rules)
 pub loop-i-preserved : goal.loop-i-preserved
 loop-i-preserved c = search (turn_on, rules)
 
-pub returns-then-i-many : goal.returns-then-i-many
-returns-then-i-many c = search (find_end, rules)
+pub returns : goal.returns
+returns c = search (find_end, rules)
 
 pub returns-then-is_bool : goal.returns-then-is_bool
 returns-then-is_bool c = search (turn_hit, rules)

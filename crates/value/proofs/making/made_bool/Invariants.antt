@@ -1,6 +1,5 @@
 -- `value::making::made_bool` meets its contract. Assumes nothing.
 use mathlib.Core.List.{[], ◌∷◌}
-use Prim.Native.Nat.{◌-◌}
 use Rattle.forms.specs.Tags.{BOOL_VALUE}
 use Rattle.table.specs.Layout.{MADE, rows_of}
 use Rattle.value.proofs.Makes.{Finding}
@@ -8,6 +7,3 @@ use Rattle.value.proofs.making.made_bool.Given as goal
 
 abbrev pub invariant-loop-i : goal.invariant-loop-i
 invariant-loop-i l = Finding (BOOL_VALUE ∷ l.bit ∷ []) (rows_of l.rows MADE) l.many l.i
-
-abbrev pub decreases-loop-i : goal.decreases-loop-i
-decreases-loop-i l = l.many - l.i

@@ -1,6 +1,0 @@
--- `known::main` ends.
-use Rattle.std.proofs.Common.{◌-◌}
-use Rattle.known.proofs.main.Given as goal
-
-abbrev pub decreases-loop-i : goal.decreases-loop-i
-decreases-loop-i l = l.n - l.i

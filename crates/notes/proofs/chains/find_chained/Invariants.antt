@@ -1,9 +1,0 @@
--- `notes::chains::find_chained` meets its contract. Assumes nothing.
-use Rattle.notes.proofs.Chaining.{Chasing}
-use Rattle.notes.proofs.chains.find_chained.Given as goal
-
-abbrev pub invariant-loop-left : goal.invariant-loop-left
-invariant-loop-left l = Chasing l.rows l.kind l.text l.n l.left
-
-abbrev pub decreases-loop-left : goal.decreases-loop-left
-decreases-loop-left l = l.left

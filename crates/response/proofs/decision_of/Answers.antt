@@ -1,7 +1,0 @@
--- `response::decision_of` meets its contract. Assumes nothing.
-use Rattle.response.proofs.Counting.{any_of, decision_is}
-use borrow.Author.Rules.{rules}
-use Rattle.response.proofs.decision_of.Goals as goal
-
-pub returns : goal.returns
-returns c = search (any_of, decision_is, rules)

@@ -1,9 +1,0 @@
--- `testload::sheet` meets its contract. Assumes nothing.
-use Rattle.drawn.specs.TestLoad.{head_texts, head_rest}
-use Rattle.testload.proofs.Calling.{whole_sheet}
-use Rattle.testload.proofs.sheet.Goals as goal
-
-pub returns : goal.returns
-unfolding head_texts head_rest
-returns c = let x = c.args in
-    whole_sheet x.seed x.count c.bytes-k.ensures c.ids-l.ensures c.bytes-m.ensures c.nodes-n.ensures c.policies.ensures
