@@ -1,7 +1,7 @@
 // Calls tried by running: records from standard input, slices and buffers that hold a mark before a call and are looked at after it.
 #![tactic(auto)]
 
-ghost use Rattle.std.specs.Prelude.{◌≡◌, cond, ◌≤◌, ℕ, List, length, take, drop, MatchOption};
+ghost use Rattle.std.specs.Prelude.{◌≡◌, false, cond, ◌≤◌, ℕ, List, length, take, drop, MatchOption};
 ghost use Rattle.authorizer.specs.Called.{Called};
 ghost use Rattle.trial.specs.Lent.{mark, marks, entry_of, every, words_kept, Taken};
 ghost use Rattle.trial.specs.Lending.{IsTooMuch, Lends};
@@ -58,7 +58,10 @@ pub fn taken<'a>(rt: &impl Input, space: &'a mut [u8], n: usize) -> &'a [u8]
 
 // ---- the call
 
-// The call of an entry, 0 partial and 1 complete, in marked slices.
+// The entry that is the complete one; any other number is the partial one.
+const COMPLETE: usize = 1;
+
+// The call of an entry in marked slices.
 pub fn call(
     entry: usize,
     sheet: &[u8],
@@ -72,7 +75,7 @@ pub fn call(
     work2.fill(MARKED);
     out.fill(MARK);
     match entry {
-        1 => complete(sheet, work1, work2, out),
+        COMPLETE => complete(sheet, work1, work2, out),
         _ => partial(sheet, work1, work2, out),
     }
 }
@@ -173,7 +176,10 @@ pub fn report(rt: &impl Print, r: Returned, a: &[u32], b: &[u32], out: &[u8]) {
 // ---- records
 
 // What the line of a record says after the bytes of the record's name, which is printed: two numbers and what is lent.
-pub fn heading(rt: &(impl Input + Print)) -> (usize, usize, Lengths) {
+pub fn heading(rt: &(impl Input + Print)) -> (usize, usize, Lengths)
+    ensures one { result.0 ≤ 9999999 }
+    ensures other { result.1 ≤ 9999999 }
+{
     let named = number(rt);
     let (one, other) = (number(rt), number(rt));
     let lengths = Lengths {
@@ -186,16 +192,18 @@ pub fn heading(rt: &(impl Input + Print)) -> (usize, usize, Lengths) {
     (one, other, lengths)
 }
 
-// A call in what is lent, and the report of it, where there is so much to lend.
+// A call in what is lent, and the report of it, where there is so much to lend; whether there is.
 pub fn try_call<C: FnOnce(&mut [u32], &mut [u32], &mut [u8]) -> Returned>(
     rt: &impl Print,
     lengths: Lengths,
     call: C,
-)
+) -> bool
     requires { C.IsAlwaysCallable call }
+    ensures { result ≡ false → IsTooMuch lengths }
 {
     lend(lengths, |a, b, out| {
         let r = call(a, b, out);
         report(rt, r, a, b, out);
-    });
+    })
+    .is_some()
 }
