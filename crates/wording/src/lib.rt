@@ -23,7 +23,8 @@ pub fn says_complete(sheet: &[u8]) -> bool
     ensures { result ≡ says_complete sheet.now }
 {
     let n = find(sheet, 0, b'\n');
-    front(sheet, n) == b"sheet=complete".as_slice()
+    let is_complete = front(sheet, n) == b"sheet=complete".as_slice();
+    is_complete
 }
 
 // ---- lines
