@@ -518,8 +518,13 @@ fn shift(log: &mut [u32], start: usize, end: usize, value: u32)
     requires { (start ≤ end) × (end < length log.old) }
     ensures { Shifted log.old start end value log.new }
 {
-    log.copy_within(start..end, start + 1);
-    log[start] = value;
+    let mut moved = value;
+    for i in start..end {
+        let next = log[i];
+        log[i] = moved;
+        moved = next;
+    }
+    log[end] = moved;
 }
 
 // The number `value` in its place among the words from `at` to `end`, unless it is there; the end after them.
