@@ -25,8 +25,8 @@ fn same_words(left: &[u32], right: &[u32]) -> bool
     if n != right.len() {
         return false;
     }
-    for i in 1..=n.min(TAIL) {
-        if left[n - i] != right[n - i] {
+    for i in 0..n.min(TAIL) {
+        if left[n - 1 - i] != right[n - 1 - i] {
             return false;
         }
     }
@@ -41,8 +41,8 @@ fn same_bytes(left: &[u8], right: &[u8]) -> bool
     if n != right.len() {
         return false;
     }
-    for i in 1..=n.min(TAIL) {
-        if left[n - i] != right[n - i] {
+    for i in 0..n.min(TAIL) {
+        if left[n - 1 - i] != right[n - 1 - i] {
             return false;
         }
     }
