@@ -47,8 +47,10 @@ fn one(rt: &(impl Input + Print), head: &[u8; 7]) {
     }
     let mut a: [u32; 16384] = [7; 16384];
     let mut b: [u32; 16384] = [7; 16384];
-    let r = load::load(&buffer[..n], head[0] == 112, &mut a, &mut b);
-    show(rt, r.number as u64, r.line as u64);
+    match load::load(&buffer[..n], head[0] == 112, &mut a, &mut b) {
+        Ok(()) => show(rt, 0, 0),
+        Err(refusal) => show(rt, u32::from(refusal.fault) as u64, refusal.line as u64),
+    }
 }
 
 fn main(rt: HostRuntime) {

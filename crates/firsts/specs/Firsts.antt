@@ -1,5 +1,5 @@
 -- The attributes of entities that a long path follows, noted in cells: whose an attribute is, its text plus one, and the value that it leads to.
-use Rattle.std.specs.Prelude.{Option as Maybe, Some, ◌≡◌, Bool, false, List, [], ℕ, suc, ◌<◌, length, get_or}
+use Rattle.std.specs.Prelude.{Option as Maybe, Some, ◌≡◌, Bool, false, List, [], ℕ, suc, ◌<◌, ◌+◌, ◌*◌, ◌%◌, length, get_or}
 use Rattle.std.proofs.Math.Option.{some}
 use Rattle.cedar.specs.Numbered.{entry_of}
 use Rattle.sheet.specs.Forms.{at, mark, ENTITY}
@@ -18,8 +18,19 @@ pub record Tells (a : List ℕ) (d : Cell) : Type 0 where
 pub record Firsts (a : List ℕ) (cells : List Cell) : Type 0 where
   pub is : (h : ℕ) → Tells a (get_or cells h BLANK)
 
--- what is noted for text t of value v, if anything, holds where the cells do
+-- the place of the cell of value v in the column of text t
+abbrev pub cell_of : ℕ → ℕ → ℕ
+cell_of v t = t % 8 * 128 + v
+
+-- what is noted for text t of value v, if anything, stands in their cell
+pub record Noted (cells : List Cell) (v t : ℕ) (r : Maybe ℕ) : Type 0 where
+  pub owner : (x : ℕ) → r ≡ Some x → (get_or cells (cell_of v t) BLANK).owner ≡ v
+  pub text : (x : ℕ) → r ≡ Some x → (get_or cells (cell_of v t) BLANK).text ≡ suc t
+  pub next : (x : ℕ) → r ≡ Some x → (get_or cells (cell_of v t) BLANK).next ≡ x
+
+-- it does, and it holds where the cells do
 pub record Leads (cells : List Cell) (v t : ℕ) (r : Maybe ℕ) : Type 0 where
+  pub noted : Noted cells v t r
   pub is : (a : List ℕ) → Firsts a cells → (x : ℕ) → r ≡ Some x → (c : Bool) → Atˡ x ≡ look_attr c a v t
 
 -- what is noted holds as before, if text t leads from value v to x

@@ -5,7 +5,7 @@
 ghost use Rattle.std.specs.Prelude.{◌≡◌, [], ◌+◌, ◌≤◌, ◌<◌, length, get_or};
 ghost use Rattle.sheet.specs.Forms.{ENTITY};
 ghost use Rattle.table.specs.Layout.{rows_of};
-ghost use Rattle.firsts.specs.Firsts.{Kept, KeptAll, Sourced, Entered, Firsts, Leads};
+ghost use Rattle.firsts.specs.Firsts.{Kept, KeptAll, Sourced, Entered, Firsts, Leads, cell_of};
 
 use forms::{ENTITY, MARK, VALUE};
 use lookup::TEXTS;
@@ -17,9 +17,9 @@ use words::{cut, item_or, put, read};
 // kept: an Option would take more words, and each long path clears a thousand cells.
 #[derive(Clone, Copy)]
 pub struct Cell {
-    owner: u32,
-    text: u32,
-    next: u32,
+    pub owner: u32,
+    pub text: u32,
+    pub next: u32,
 }
 
 // The cell where nothing is noted.
@@ -41,7 +41,9 @@ const COLUMN: usize = 128;
 const SHORT: usize = 8;
 
 // The place of the cell of `value` in the column of `text`.
-fn cell_of(value: u32, text: u32) -> usize {
+fn cell_of(value: u32, text: u32) -> usize
+    ensures { result ≡ cell_of value text }
+{
     text as usize % COLUMNS * COLUMN + value as usize
 }
 

@@ -69,7 +69,7 @@ module _ {a m n : List ℕ} {low high : Bool} where
     walk_off : b ≡ false → Ran a m o low high false
     walk_off e = ran_no (w.down (rw (r.no_is e))) r.known (r.rest ∙ w.rest)
 
-next : (r : List ℕ) (i : ℕ) → i < length r → drop i r ≡ get_or r i 0 ∷ drop (i + 1) r
+pub next : (r : List ℕ) (i : ℕ) → i < length r → drop i r ≡ get_or r i 0 ∷ drop (i + 1) r
 next r i h = rw (add-one i) (drop-cons r i 0 h)
 
 -- ---- `elements`: the items s of row r, walked from item i on

@@ -33,13 +33,13 @@ entries_on l h = rw (take_rest l 2) (go l h)
     go (t ∷ []) h = absurd (omega arith)
     go (t ∷ x ∷ l) h = refl
 
-declareds_end : (l : List ℕ) → length l < 3 → declareds l ≡ []
+pub declareds_end : (l : List ℕ) → length l < 3 → declareds l ≡ []
 declareds_end [] h = refl
 declareds_end (t ∷ []) h = refl
 declareds_end (t ∷ r ∷ []) h = refl
 declareds_end (t ∷ r ∷ y ∷ l) h = absurd (omega arith)
 
-declareds_on : (l : List ℕ) → 3 ≤ length l
+pub declareds_on : (l : List ℕ) → 3 ≤ length l
     → declareds l ≡ record { text = get_or l 0 0; required = eqb (get_or l 1 0) 1; type = get_or l 2 0 } ∷ declareds (take (length l - 3) (drop 3 l))
 declareds_on l h = rw (take_rest l 3) (go l h)
   where

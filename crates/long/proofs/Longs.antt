@@ -128,13 +128,13 @@ sub_in a b w e l = go (dec_lt a b)
     go (yes h) = ap in_range (sub_less a b h) ∙ rw (le-leb (b - suc a) 9223372036854775807 (omega arith))
     go (no h) = ap in_range (sub_more a b (omega arith)) ∙ rw (le-leb (a - b) 9223372036854775807 (omega arith))
 
-answer_in : (z : ℤ) (a b w : ℕ) → z ≡ sub_ℕ a b → w + b ≡ a + half → w < 18446744073709551616 → number_of (Some w) ≡ ranged z
+pub answer_in : (z : ℤ) (a b w : ℕ) → z ≡ sub_ℕ a b → w + b ≡ a + half → w < 18446744073709551616 → number_of (Some w) ≡ ranged z
 answer_in z a b w p e l = answer z w (ap in_range p ∙ sub_in a b w e l) (long_sub w ∙ sub_same w half a b (omega arith) ∙ sym p)
 
-answer_below : (z : ℤ) (a b : ℕ) → z ≡ sub_ℕ a b → a + half < b → number_of None ≡ ranged z
+pub answer_below : (z : ℤ) (a b : ℕ) → z ≡ sub_ℕ a b → a + half < b → number_of None ≡ ranged z
 answer_below z a b p h = answer_outside z (ap in_range (p ∙ sub_less a b (omega arith)) ∙ rw (lt-leb (b - suc a) 9223372036854775807 (omega arith)))
 
-answer_above : (z : ℤ) (a b : ℕ) → z ≡ sub_ℕ a b → b + half ≤ a → number_of None ≡ ranged z
+pub answer_above : (z : ℤ) (a b : ℕ) → z ≡ sub_ℕ a b → b + half ≤ a → number_of None ≡ ranged z
 answer_above z a b p h = answer_outside z (ap in_range (p ∙ sub_more a b (omega arith)) ∙ rw (lt-leb (a - b) 9223372036854775807 (omega arith)))
 
 -- a difference as the checked operations of words give it: what is d less than x, or d more
@@ -188,10 +188,10 @@ abs_neg : (k : ℕ) → nat_abs (neg_ℤ (pos k)) ≡ k
 abs_neg zero = refl
 abs_neg (suc k) = refl
 
-size_negative : (w : ℕ) → w < half → half - w ≡ nat_abs (long_at w)
+pub size_negative : (w : ℕ) → w < half → half - w ≡ nat_abs (long_at w)
 size_negative w h = sym (ap nat_abs (long_negative w h) ∙ abs_neg (half - w))
 
-size_positive : (w : ℕ) → half ≤ w → w - half ≡ nat_abs (long_at w)
+pub size_positive : (w : ℕ) → half ≤ w → w - half ≡ nat_abs (long_at w)
 size_positive w h = sym (ap nat_abs (long_positive w h))
 
 plus_minus : (m n : ℕ) → pos m *ℤ neg_ℤ (pos n) ≡ neg_ℤ (pos (m * n))

@@ -20,8 +20,8 @@ use words::{cut, item_or, put, read};
 // kept: an Option would take half as many words again, and each long path clears a thousand of them.
 #[derive(Clone, Copy)]
 pub struct Span {
-    start: u32,
-    end: u32,
+    pub start: u32,
+    pub end: u32,
 }
 
 // Where no entries are known to stand.

@@ -207,7 +207,9 @@ const PATH: usize = 4096;
 const COUNTED: usize = 67;
 
 // What stands at place `i` on the command line, in the buffer: nothing where nothing stands there or the buffer has no room.
-fn argument<'a>(rt: &impl Env, i: usize, buffer: &'a mut [u8]) -> &'a [u8] {
+fn argument<'a>(rt: &impl Env, i: usize, buffer: &'a mut [u8]) -> &'a [u8]
+    ensures { IsPrefixLen (length result.now) buffer.old }
+{
     let n = rt.arg(i, buffer).unwrap_or(0);
     &buffer[..n]
 }

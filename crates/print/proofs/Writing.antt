@@ -123,6 +123,26 @@ signed_negative w h = signed_neg (half - w) (omega arith) ∙ ap signed (sym (lo
 pub signed_positive : (w : ℕ) → 9223372036854775808 ≤ w → digits (w - 9223372036854775808) ≡ signed (long_at w)
 signed_positive w h = ap signed (sym (long_positive w h))
 
+-- ---- the answers of the writers of numbers
+
+pub number_one : (was is : List ℕ) (at next n : ℕ) → n < 10 → Written was at ((48 + n) ∷ []) is next → Written was at (digits n) is next
+number_one was is at next n h w = written_as w (digits_one n h)
+
+pub number_more : (was mid is : List ℕ) (at m next n : ℕ) → n < 18446744073709551616 → 10 ≤ n → Written was at (digits (n / 10)) mid m → Written mid m ((48 + n % 10) ∷ []) is next
+    → Written was at (digits n) is next
+number_more was mid is at m next n l h v w = written_as (written_append v w) (digits_more n h l)
+
+pub number_two : (was mid is : List ℕ) (at m next n : ℕ) → 10 ≤ n → n < 100 → Written was at ((48 + n / 10) ∷ []) mid m → Written mid m ((48 + n % 10) ∷ []) is next
+    → Written was at (digits n) is next
+number_two was mid is at m next n l h v w = number_more was mid is at m next n (omega arith) l (number_one was mid at m (n / 10) (omega arith) v) w
+
+pub long_less : (was mid is : List ℕ) (at m next w : ℕ) → w < 9223372036854775808 → Written was at (45 ∷ []) mid m → Written mid m (digits (9223372036854775808 - w)) is next
+    → Written was at (signed (long_at w)) is next
+long_less was mid is at m next w h u v = written_as (written_append u v) (signed_negative w h)
+
+pub long_more : (was is : List ℕ) (at next w : ℕ) → 9223372036854775808 ≤ w → Written was at (digits (w - 9223372036854775808)) is next → Written was at (signed (long_at w)) is next
+long_more was is at next w h v = written_as v (signed_positive w h)
+
 -- ---- a whole answer
 
 -- from the start of a buffer that has room for all of it

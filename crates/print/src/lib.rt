@@ -17,7 +17,48 @@ pub struct Returned {
 
 const GREATEST: usize = 18446744073709551615;
 
-// A lent buffer that is written from its front on, and the place where the next byte goes.
+// One byte at a place, and the place after it.
+fn byte_at(buffer: &mut [u8], at: usize, b: u8) -> usize
+    ensures { Written buffer.old at (b ∷ []) buffer.new result }
+{
+    if at < buffer.len() {
+        buffer[at] = b;
+        return at + 1;
+    }
+    if at < GREATEST {
+        return at + 1;
+    }
+    at
+}
+
+// A run of bytes from a place on, likewise.
+fn bytes_at(buffer: &mut [u8], at: usize, text: &[u8]) -> usize
+    ensures { Written buffer.old at text.now buffer.new result }
+{
+    let mut place = at;
+    for &b in text {
+        place = byte_at(buffer, place, b);
+    }
+    place
+}
+
+// A number's decimal digits from a place on, likewise.
+fn number_at(buffer: &mut [u8], at: usize, n: u64) -> usize
+    ensures { Written buffer.old at (digits n) buffer.new result }
+{
+    if n < 10 {
+        return byte_at(buffer, at, (48 + n) as u8);
+    }
+    let q = n / 10;
+    if n < 100 {
+        let tens = byte_at(buffer, at, (48 + q) as u8);
+        return byte_at(buffer, tens, (48 + n % 10) as u8);
+    }
+    let mid = number_at(buffer, at, q);
+    byte_at(buffer, mid, (48 + n % 10) as u8)
+}
+
+// A lent buffer that is written from its front or from a place on, and the place where the next byte goes.
 #[derive(Drop)]
 pub struct Out<'a> {
     buffer: &'a mut [u8],
@@ -36,6 +77,15 @@ impl<'a> Out<'a> {
         Out { buffer, at: 0 }
     }
 
+    // Written from a place on, whether the buffer reaches it or not: what stands before it stays.
+    pub fn from_place(buffer: &'a mut [u8], at: usize) -> Out<'a>
+        ensures same { result.buffer.ghost_name ≡ buffer.entry.ghost_name }
+        ensures buffer { result.buffer.now ≡ buffer.old }
+        ensures at { result.at ≡ at }
+    {
+        Out { buffer, at }
+    }
+
     // How many bytes were written, with those that had no room.
     pub fn len(&self) -> usize
         ensures { result ≡ self.now.at }
@@ -47,33 +97,21 @@ impl<'a> Out<'a> {
     pub fn byte(&mut self, b: u8)
         ensures { Prints self.old (b ∷ []) self.new }
     {
-        if self.at < self.buffer.len() {
-            self.buffer[self.at] = b;
-        }
-        if self.at < GREATEST {
-            self.at += 1;
-        }
+        self.at = byte_at(self.buffer, self.at, b);
     }
 
     // A run of bytes: a word of the format, or a text of the sheet.
     pub fn bytes(&mut self, text: &[u8])
         ensures { Prints self.old text.now self.new }
     {
-        for &b in text {
-            self.byte(b);
-        }
+        self.at = bytes_at(self.buffer, self.at, text);
     }
 
     // A number's decimal digits.
     pub fn number(&mut self, n: u64)
         ensures { Prints self.old (digits n) self.new }
     {
-        if n < 10 {
-            self.byte((48 + n) as u8);
-            return;
-        }
-        self.number(n / 10);
-        self.byte((48 + n % 10) as u8);
+        self.at = number_at(self.buffer, self.at, n);
     }
 
     // A long, from its word.

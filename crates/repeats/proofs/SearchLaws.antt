@@ -118,6 +118,13 @@ not_same k l n = go (same k l) refl
     go true e = absurd (n (same_is k l e))
     go false e = refl
 
+-- runs of other lengths, or with another item at one place
+pub other_length : (k l : List ℕ) → (length k ≡ length l → ⊥) → false ≡ same k l
+other_length k l n = not_same k l (λ e. n (ap length e))
+
+pub other_item : (k l : List ℕ) (i : ℕ) → (get_or k i 0 ≡ get_or l i 0 → ⊥) → false ≡ same k l
+other_item k l i n = not_same k l (λ e. n (ap (λ (y : List ℕ). get_or y i 0) e))
+
 no_ends : (n p : ℕ) (l : List ℕ) → p < length (ends_of n l) → 1 ≤ n
 no_ends n p l h = go (ℕ_discrete n 0)
   where

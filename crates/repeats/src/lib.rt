@@ -14,6 +14,41 @@ use forms::{TEXT, TEXT_LINE};
 use table::{base_of, bytes, count, item, row, tag};
 use words::{cut, read};
 
+// So many items at the end of two runs are compared before all are: runs that begin alike often end otherwise.
+const TAIL: usize = 16;
+
+// Whether two rows are the same.
+fn same_words(left: &[u32], right: &[u32]) -> bool
+    ensures { result ≡ same left.now right.now }
+{
+    let n = left.len();
+    if n != right.len() {
+        return false;
+    }
+    for i in 0..n.min(TAIL) {
+        if left[n - 1 - i] != right[n - 1 - i] {
+            return false;
+        }
+    }
+    left == right
+}
+
+// Whether two texts are the same.
+fn same_bytes(left: &[u8], right: &[u8]) -> bool
+    ensures { result ≡ same left.now right.now }
+{
+    let n = left.len();
+    if n != right.len() {
+        return false;
+    }
+    for i in 0..n.min(TAIL) {
+        if left[n - 1 - i] != right[n - 1 - i] {
+            return false;
+        }
+    }
+    left == right
+}
+
 // Whether the row whose beginning word `i` says, at word `start`, is this one. Most rows end with another word: word `start` of `ends` is the
 // last word of a row that begins there and is as long.
 fn is_row_at(rows: &[u32], ends: &[u32], x: u32, i: usize, start: usize, line: &[u32]) -> bool
@@ -26,7 +61,7 @@ fn is_row_at(rows: &[u32], ends: &[u32], x: u32, i: usize, start: usize, line: &
         }
     }
     let e = read(rows, i + 1) as usize;
-    line == cut(rows, start, e)
+    same_words(line, cut(rows, start, e))
 }
 
 // Whether a row is among those of a key.
@@ -58,7 +93,7 @@ fn is_text_row(sheet: &[u8], line: &[u32], text: &[u8]) -> bool
     }
     let s = item(line, 1) as usize;
     let n = item(line, 2) as usize;
-    text == bytes(sheet, s, s + n)
+    same_bytes(text, bytes(sheet, s, s + n))
 }
 
 // The last byte of a text; 0 where it has none.
@@ -105,6 +140,7 @@ fn is_text_at(
 }
 
 // Whether bytes are among the texts.
+#[inline(never)]
 pub fn is_text(sheet: &[u8], rows: &[u32], text: &[u8]) -> bool
     ensures { result ≡ among (TEXT_LINE ∷ text.now) (text_rows sheet.now (rows_of rows.now TEXT)) }
 {

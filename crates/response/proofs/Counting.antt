@@ -5,7 +5,7 @@ use mathlib.Core.List.{List, [], ◌∷◌}
 use Prim.Native.Nat.{ℕ, zero, suc, ◌+◌, ◌≤◌, ◌<◌}
 use native.Mathlib.Numerals.{add-one}
 use native.Mathlib.Omega.{arith}
-use borrow.Author.Tests.{lt-ltb}
+use borrow.Author.Tests.{lt-ltb, ne_eqb}
 use lib.Dec.{eqb, ltb}
 use lib.ListN.{length, get_or, drop}
 use Rattle.cedar.specs.Canonical.{bit}
@@ -187,6 +187,19 @@ module _ (a cs : List ℕ) (effect n : ℕ) (en : n ≡ get_or a RUN 0) where
       → (k.trues ≡ count_in effect CLASS_TRUE (verdicts_in a cs)) × (k.falses ≡ count_in effect CLASS_FALSE (verdicts_in a cs)) × (k.errors ≡ count_in effect CLASS_ERROR (verdicts_in a cs)) × (k.opens ≡ count_in effect CLASS_OPEN (verdicts_in a cs))
   tallies_end i k t h =
       (tally_end a cs effect CLASS_TRUE n en i k.trues t.trues h, tally_end a cs effect CLASS_FALSE n en i k.falses t.falses h, tally_end a cs effect CLASS_ERROR n en i k.errors t.errors h, tally_end a cs effect CLASS_OPEN n en i k.opens t.opens h)
+
+-- ---- by the number of an effect
+
+-- no policy has another effect
+pub other_effect : (n : ℕ) → (n ≡ PERMIT → ⊥) → (n ≡ FORBID → ⊥) → (g : Class → Bool) (ls : List Verdict) → how_many (effect_is n) g ls ≡ 0
+other_effect n p q g [] = refl
+other_effect n p q g (l ∷ ls) =
+    let z : 0 + how_many (effect_is n) g ls ≡ how_many (effect_is n) g ls = omega arith in
+    ap (λ (b : Bool). bit (b && g l.class) + how_many (effect_is n) g ls) (none l.effect) ∙ z ∙ other_effect n p q g ls
+  where
+    none : (e : Effect) → effect_is n e ≡ false
+    none permit = ne_eqb PERMIT n (λ z. p (sym z))
+    none forbid = ne_eqb FORBID n (λ z. q (sym z))
 
 -- ---- whether there is one
 

@@ -1,13 +1,14 @@
 -- The words for a decision and a class. Assumes nothing.
 use mathlib.Core.Path.{◌≡◌, refl, ap}
 use mathlib.Core.List.{List, [], ◌∷◌, ◌++◌}
-use Prim.Native.Nat.{ℕ}
+use Prim.Native.Nat.{ℕ, zero, suc}
 use Rattle.sheet.specs.Ascii.{ascii}
 use Rattle.print.specs.declared.Out.{Out}
 use Rattle.print.specs.Out.{Prints}
 use Rattle.print.proofs.Outs.{prints_as, prints_two}
 use Rattle.sheet.specs.Answer.{decision_word}
 use Rattle.response.specs.Verdicts.{decision_of, effect_number, effect_said}
+use Rattle.response.specs.Verdicts.{class_in as class_called}
 use Rattle.response.specs.Printed.{decision_bytes, effect_bytes, class_bytes}
 use Rattle.response.specs.declared.Decision.{Decision}
 use Rattle.response.specs.declared.Decision.TheVariants.{Allow, Deny, Open}
@@ -52,3 +53,11 @@ class_said_law True = refl
 class_said_law False = refl
 class_said_law Error = refl
 class_said_law Openᶜ = refl
+
+-- a number says what the class does that is called by it
+pub class_read_law : (n : ℕ) → class_bytes (class_number (class_called n)) ≡ class_bytes n
+class_read_law zero = refl
+class_read_law (suc zero) = refl
+class_read_law (suc (suc zero)) = refl
+class_read_law (suc (suc (suc zero))) = refl
+class_read_law (suc (suc (suc (suc n)))) = refl

@@ -1,5 +1,5 @@
 // The decision, the counts, the name and the policies printed into a lent buffer.
-ghost use Rattle.std.specs.Prelude.{[], ◌∷◌, ◌++◌, get_or};
+ghost use Rattle.std.specs.Prelude.{◌≡◌, [], ◌∷◌, ◌++◌, get_or};
 ghost use Rattle.table.specs.Layout.{RUN, rows_of};
 ghost use Rattle.print.specs.Out.{Prints};
 ghost use Rattle.sheet.specs.Bytes.{digits};
@@ -11,7 +11,7 @@ ghost use Rattle.response.specs.Verdicts.{effect_said, effect_number, verdicts_s
 ghost use Rattle.response.specs.Naming.{name_of};
 ghost use Rattle.response.specs.Printed.{id_bytes, decision_bytes, effect_bytes, class_bytes, listed, four_of, policy_at, policy_lines, complete_bytes, rooted_lines, partial_bytes};
 
-use crate::{Decision, Effect, Policies};
+use crate::{Decision, Effect, Policies, class_of};
 use listing::nodes::node_lines;
 use listing::number_after;
 use listing::values::made_values;
@@ -85,15 +85,30 @@ fn effect_word(out: &mut Out, effect: Effect)
 
 // A class after a comma.
 #[tactic(auto, using(crate::proofs::Wording::class_said_law))]
+fn class_text(class: Class) -> &'static [u8]
+    ensures { result.now ≡ class_bytes (class_number (Called.class_in class)) }
+{
+    match class {
+        Class::True => b",true",
+        Class::False => b",false",
+        Class::Error => b",error",
+        Class::Open => b",open",
+    }
+}
+
+// The same, by the class's number.
+#[tactic(auto, using(crate::proofs::Wording::class_read_law))]
+pub fn class_name(class: u32) -> &'static [u8]
+    ensures { result.now ≡ class_bytes class }
+{
+    class_text(class_of(class))
+}
+
+// The same, printed.
 fn class_word(out: &mut Out, class: Class)
     ensures { Prints out.old (class_bytes (class_number (Called.class_in class))) out.new }
 {
-    match class {
-        Class::True => out.bytes(b",true"),
-        Class::False => out.bytes(b",false"),
-        Class::Error => out.bytes(b",error"),
-        Class::Open => out.bytes(b",open"),
-    }
+    out.bytes(class_text(class));
 }
 
 // The line of policy `i` up to its id.

@@ -17,7 +17,7 @@ ghost use Rattle.tpe.specs.Classes as Called;
 ghost use Rattle.response.specs.Verdicts.{effect_said, effect_in, class_in, effect_is, class_is, effect_number, decision_of, verdicts_said};
 ghost use Rattle.response.specs.Naming.{name_of, true_in, why_in};
 
-use forms::FORBID;
+use forms::{FORBID, PERMIT};
 use residual::{CLASS_ERROR, CLASS_FALSE, CLASS_TRUE};
 use table::{RUN, count, item, row};
 use tpe::Class;
@@ -91,6 +91,18 @@ impl Counts {
     }
 }
 
+// A class by its number; a greater number is open too.
+fn class_of(number: u32) -> Class
+    ensures { Called.class_in result ≡ class_in number }
+{
+    match number {
+        CLASS_TRUE => Class::True,
+        CLASS_FALSE => Class::False,
+        CLASS_ERROR => Class::Error,
+        _ => Class::Open,
+    }
+}
+
 // The policies that run: the words that hold their sheet, and a word of class for each of them.
 #[derive(Clone, Copy)]
 pub struct Policies<'a> {
@@ -113,12 +125,7 @@ impl<'a> Policies<'a> {
     pub fn class(&self, i: u32) -> Class
         ensures { Called.class_in result ≡ class_in (get_or self.now.classes.now i 0) }
     {
-        match read(self.classes, i as usize) {
-            CLASS_TRUE => Class::True,
-            CLASS_FALSE => Class::False,
-            CLASS_ERROR => Class::Error,
-            _ => Class::Open,
-        }
+        class_of(read(self.classes, i as usize))
     }
 
     // The counts of an effect.
@@ -136,6 +143,20 @@ impl<'a> Policies<'a> {
             counts = counts.with(self.class(i));
         }
         counts
+    }
+
+    // The counts of an effect by its number; no policy has another.
+    pub fn counts_by_number(&self, effect: u32) -> Counts
+        ensures trues { result.trues ≡ how_many (effect_is effect) (class_is CLASS_TRUE) (verdicts_said self.now) }
+        ensures falses { result.falses ≡ how_many (effect_is effect) (class_is CLASS_FALSE) (verdicts_said self.now) }
+        ensures errors { result.errors ≡ how_many (effect_is effect) (class_is CLASS_ERROR) (verdicts_said self.now) }
+        ensures opens { result.opens ≡ how_many (effect_is effect) (class_is CLASS_OPEN) (verdicts_said self.now) }
+    {
+        match effect {
+            PERMIT => self.counts(Effect::Permit),
+            FORBID => self.counts(Effect::Forbid),
+            _ => Counts::default(),
+        }
     }
 
     // The decision that the classes give.

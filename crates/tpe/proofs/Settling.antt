@@ -26,7 +26,7 @@ use Rattle.strict.specs.declared.Given.{Given}
 use Rattle.strict.specs.declared.Given.TheVariants.{Bool as Boolᵍ, Long, Old, Fails, Stays}
 use Rattle.tpe.specs.Run.{Kids, lit_of, err_of, left_of, made_of, words_of, give_of, settle_of, var_for, env_in, many_of, set_of, rec_of}
 use Rattle.tpe.specs.Leaves.{Leaves}
-use Rattle.tpe.specs.Joins.{join_in}
+use Rattle.tpe.specs.Joins.{join_in, join_at}
 use Rattle.tpe.specs.declared.steps.Joined.{Joined}
 use Rattle.tpe.specs.declared.steps.Joined.TheVariants.{Values, Error, Open}
 use Rattle.tpe.specs.Steps.{many_at}
@@ -152,6 +152,21 @@ many_at_law (suc j) r start n k = refl
 many_is : (t : ℕ) (r : List ℕ) (start n : ℕ) (k : Kids) → many_at partial [] t start n r k ≡ many_of (many_row t r (drop start k.log)) k.words k.log start n (at r 0) k.join
 unfolding many_at many_row
 many_is t r start n k = many_at_law (t - SET_OF) r start n k
+
+-- a number above the first two says what some_open does
+many_read : (q a l : List ℕ) (start n y c : ℕ) → many_of q a l start n y (join_at c) ≡ many_of q a l start n y c
+unfolding many_of
+many_read q a l start n y zero = refl
+many_read q a l start n y (suc zero) = refl
+many_read q a l start n y (suc (suc c)) = refl
+
+pub many_numbered : (t : ℕ) (r : List ℕ) (start n : ℕ) (a l : List ℕ) (j c : ℕ) → j ≡ join_at c
+    → many_at partial [] t start n r (record { words = a; log = l; join = j }) ≡ many_at partial [] t start n r (record { words = a; log = l; join = c })
+many_numbered t r start n a l j c e =
+    many_is t r start n (record { words = a; log = l; join = j })
+    ∙ ap (many_of (many_row t r (drop start l)) a l start n (at r 0)) e
+    ∙ many_read (many_row t r (drop start l)) a l start n (at r 0) c
+    ∙ sym (many_is t r start n (record { words = a; log = l; join = c }))
 
 drop_log : (b : List ℕ) (start bt : ℕ) → drop start (take bt b) ≡ part b start bt
 drop_log b start zero = let z : 0 - start ≡ 0 = omega arith in drop-nil start ∙ rw z

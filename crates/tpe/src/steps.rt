@@ -18,7 +18,7 @@ ghost use Rattle.strict.specs.Gives.{out_of};
 ghost use Rattle.tpe.specs.Run.{left, left_of, made_of, settle_of, walk_from, entity_type, var_for, env_in, unmoved_of, stuck_of, walked_of, path_of};
 ghost use Rattle.residual.specs.Logs.{held};
 ghost use Rattle.tpe.specs.Leaves.{Ends};
-ghost use Rattle.tpe.specs.Joins.{join_in};
+ghost use Rattle.tpe.specs.Joins.{join_in, join_at};
 ghost use Rattle.tpe.specs.Steps.{one_at, two_at, many_at};
 ghost use Rattle.tpe.specs.Gives.{context_given, many_row, one_give, one_rule, two_give, two_rule, out_one, out_two, Tells, unless_err, rule_or, walk_in, Taken};
 
@@ -44,6 +44,19 @@ pub enum Joined {
     Values,
     Error,
     Open,
+}
+
+// The same, from its number: any but those of values and of an error is that of an open one.
+impl From<u32> for Joined {
+    ghost from_gives = { λ number joined. join_in joined ≡ join_at number };
+
+    fn from(number: u32) -> Joined {
+        match number {
+            0 => Joined::Values,
+            1 => Joined::Error,
+            _ => Joined::Open,
+        }
+    }
 }
 
 // The type of a node.
@@ -157,6 +170,21 @@ pub fn many(rows: &mut [u32], log: &mut Log, start: usize, node: u32, tag: u32, 
         Joined::Error => log.push_error(start, ty),
         Joined::Open => log.push_left(start, node, 0, ty),
     }
+}
+
+// The same, told by a number how far its children are worked.
+pub fn many_by_number(
+    rows: &mut [u32],
+    log: &mut Log,
+    start: usize,
+    node: u32,
+    tag: u32,
+    joined: u32,
+)
+    requires start_le_top { start ≤ log.old.top }
+    ensures { Ends start log.old rows.new log.new (many_at partial [] tag start node (get_or (rows_of rows.old NODE) node []) (record { words = rows.old; log = held log.old; join = joined })) }
+{
+    many(rows, log, start, node, tag, Joined::from(joined));
 }
 
 // What a rule says, where the operand that ends at `end` cannot err.

@@ -167,7 +167,7 @@ module _ (r b₀ : List ℕ) (at start bt : ℕ) (h : bt ≤ at) (b : List ℕ) 
   unfolding push_all
   done z = record { is = sym (g.left ∙ ap (push_all (take p b)) z); low = g.room.low; grows = g.grows }
 
-  pair_texts : length r < i + 2 → Holds at b p (push_all (take at b₀) (pairs_of (drop 2 r) (part b₀ start bt)))
+  pub pair_texts : length r < i + 2 → Holds at b p (push_all (take at b₀) (pairs_of (drop 2 r) (part b₀ start bt)))
   pair_texts l =
       let n : length (drop i r) < 2 = rw (length-drop i r) (omega arith) in
       done (few_texts (drop i r) (part b₀ q bt) n)
@@ -196,7 +196,7 @@ module _ (r b₀ : List ℕ) (at start bt : ℕ) (h : bt ≤ at) (b : List ℕ) 
     unfolding pairs_of
     pair = rw (four, uncons2 r i li)
 
-    pair_on : (b₁ : List ℕ) (p₁ : ℕ) (b₂ : List ℕ) (p₂ : ℕ) → Appended b p (get_or r i 0 ∷ []) b₁ p₁ → Appended b₁ p₁ (v ∷ []) b₂ p₂
+    pub pair_on : (b₁ : List ℕ) (p₁ : ℕ) (b₂ : List ℕ) (p₂ : ℕ) → Appended b p (get_or r i 0 ∷ []) b₁ p₁ → Appended b₁ p₁ (v ∷ []) b₂ p₂
         → Pairing r b₀ at start bt b₂ p₂ (i + 2) (q + ROW)
     unfolding push_all
     pair_on b₁ p₁ b₂ p₂ w₁ w₂ =

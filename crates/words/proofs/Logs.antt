@@ -1,6 +1,6 @@
 -- The laws of a log, the list `take top w`. Assumes nothing.
 use mathlib.Core.Path.{◌≡◌, refl, sym, ap, ◌∙◌}
-use mathlib.Core.List.{List, ◌++◌, append_assoc}
+use mathlib.Core.List.{List, [], ◌∷◌, ◌++◌, append_assoc}
 use mathlib.Core.Bool.{Bool, true, false, cond, and-eq-true_iff}
 use Prim.Native.Nat.{ℕ, ◌+◌, ◌-◌, ◌≤◌, ◌<◌}
 use native.Mathlib.Nat.{le_refl}
@@ -92,6 +92,12 @@ module _ (w : List ℕ) (top : ℕ) (xs : List ℕ) (b : Bool) (e : b ≡ has_ro
   append_out h =
       let t : has_room (length w) top (length xs) ≡ false = sym e ∙ h in
       record { words = rw t; end = rw t }
+
+-- one word more
+pub push_in : (w : List ℕ) (top x : ℕ) (b : Bool) → b ≡ has_room (length w) top 1 → b ≡ true → Appended w top (x ∷ []) (set w top x) (top + 1)
+push_in w top x b e h =
+    let t : has_room (length w) top 1 ≡ true = sym e ∙ h in
+    record { words = rw t; end = rw t }
 
 -- a run of stores in the place of the words that it writes
 pub append_stored : (w : List ℕ) (top : ℕ) (xs is : List ℕ) (b : Bool) → b ≡ has_room (length w) top (length xs) → b ≡ true → is ≡ sets w top xs

@@ -1,4 +1,4 @@
-// A lent slice of words. Every call is total: a word is 0 past the end, a part is cut there, and nothing is stored there.
+// A lent slice of words. Every call but `zero` is total: a word is 0 past the end, a part is cut there, and nothing is stored there.
 // A log is the list of the slice's first `top` words: it is read with 0 past its end, grows at its end while it has room, and is
 // cut by going back to a smaller `top`. A set of numbers takes one bit for each. A table of small numbers has
 // several to a word.
@@ -73,7 +73,11 @@ fn has_room(len: usize, top: usize, n: usize) -> bool
 pub fn push(words: &mut [u32], top: usize, word: u32) -> usize
     ensures { Appended words.old top (word ∷ []) words.new result }
 {
-    append(words, top, &[word])
+    if has_room(words.len(), top, 1) {
+        words[top] = word;
+        return top + 1;
+    }
+    top
 }
 
 // A run of words at the log's end, all or none of it, and the end after it.

@@ -7,4 +7,4 @@ use native.Mathlib.Omega.{arith}
 use Rattle.long.proofs.neg.Goals as goal
 
 pub returns : goal.returns
-returns c = let x = c.args in answer_more c.checked_add.result (neg_ℤ (long_at x.a)) half x.a (18446744073709551615 - x.a) 1 c.checked_add.ensures (long_neg x.a) (omega arith)
+returns c = let x = c.args in answer_more c.checked_add.result (neg_ℤ (long_at x.a)) half x.a (18446744073709551615 - x.a) _ c.checked_add.ensures (long_neg x.a) (omega arith)
