@@ -41,7 +41,7 @@ const COLUMN: usize = 128;
 const SHORT: usize = 8;
 
 // The place of the cell of `value` in the column of `text`.
-fn cell_of(value: u32, text: u32) -> usize
+pub fn cell_of(value: u32, text: u32) -> usize
     ensures { result ≡ cell_of value text }
 {
     text as usize % COLUMNS * COLUMN + value as usize

@@ -8,9 +8,8 @@ use native.Mathlib.Decide.{dec_le}
 use borrow.Author.Tests.{eq-eqb, ne_eqb, eqb-true, ltb-true, ltb-false, lt-ltb, le-ltb, not-true, not-false}
 use lib.Dec.{eqb, ltb}
 use lib.ListN.{length, get_or, take, drop, length-drop, length-append}
-use lib.Seq.{drop-drop, length-take-le}
-use borrow.Rule.Slice.PartMut.{put_mid, same_len_mid}
-use Rattle.std.proofs.lemmas.Slice.{take-put_mid}
+use lib.Seq.{drop-drop, sets, length-sets}
+use Rattle.words.proofs.Stores.{take_sets_run}
 use Rattle.cedar.specs.Evaluate.{any_suffix, is_nil, matches}
 use Rattle.sheet.specs.Forms.{mark}
 use Rattle.sheet.specs.Content.{pattern_of}
@@ -133,10 +132,6 @@ over s t u n = ap (drop n) (drop-drop u t s) ∙ drop-drop n (t + u) s
 
 -- ---- where the joining stands
 
--- a part that is replaced by as many bytes
-put_long : (a k : ℕ) (xs ys : List ℕ) → k ≡ length ys → a + k ≤ length xs → length (put_mid a k xs ys) ≡ length xs
-put_long a k xs ys e h = same_len_mid a k xs ys (omega (arith, length-drop a xs, length-take-le k (drop a xs)))
-
 -- the n bytes of `text` are joined, and the items from p on are left; `empty` is a star or an empty text
 pub record Joining (B : ℕ → List ℕ) (P : List ℕ) (q : ℕ) (w₀ w : List ℕ) (p n empty : ℕ) : Type 0 where
   pub near_p : p ≤ length P
@@ -233,16 +228,16 @@ module _ (B : ℕ → List ℕ) (P : List ℕ) (q : ℕ) (w₀ w : List ℕ) (p 
           rw f (and-false (begins g.text l)))
           s k
 
-      pub join_on : length v ≤ length w - n → (v' : List ℕ) → v' ≡ v → (e : ℕ) → e ≡ cond (eqb (length v) 0) x empty → Joining B P q w₀ (put_mid n (n + length v - n) w v') (p + 1) (n + length v) e
-      join_on o v' k e ee =
+      pub join_on : length v ≤ length w - n → (w' : List ℕ) → w' ≡ sets w n v → (e : ℕ) → e ≡ cond (eqb (length v) 0) x empty → Joining B P q w₀ w' (p + 1) (n + length v) e
+      join_on o w' k e ee =
           record {
             near_p = omega arith;
             ahead = omega (arith, g.ahead);
             text = g.text ++ v;
-            wide = put_long n (n + length v - n) w v' (omega (arith, ap length k)) (omega (arith, g.room)) ∙ g.wide;
+            wide = ap length k ∙ length-sets w n v ∙ g.wide;
             size = omega (arith, length-append g.text v, g.size);
-            room = omega (arith, put_long n (n + length v - n) w v' (omega (arith, ap length k)) (omega (arith, g.room)), g.room);
-            held = take-put_mid n (n + length v - n) w v' (n + length v) (omega (arith, ap length k)) g.room ∙ ap₂ (λ (a b : List ℕ). a ++ b) g.held k;
+            room = omega (arith, ap length k, length-sets w n v, g.room);
+            held = ap (take (n + length v)) k ∙ take_sets_run v w n (omega (arith, g.room)) ∙ ap (λ (l : List ℕ). l ++ v) g.held;
             none = go (eqb (length v) 0) refl ee;
             asks = λ s. asks_as (standing v (M (p + 1))) by_text s
                 ∙ any_as (standing g.text (standing v (M (p + 1)))) (standing (g.text ++ v) (M (p + 1))) (standing_append g.text v (M (p + 1))) s;

@@ -11,6 +11,7 @@ ghost use Rattle.like.specs.Globs.{block_in, step_in, begins, block_of, until_pi
 
 use forms::MARK;
 use table::text;
+use words::store;
 
 // The items up to the next `*` at a place of the text: they do not stand there; they do, and are the last ones, up to this place;
 // they do, and the item after the `*` and the place reached are these.
@@ -128,9 +129,8 @@ impl<'a> Search<'a> {
             if piece.len() > block.len() - n {
                 return Joined::Long;
             }
-            let end = n + piece.len();
-            block[n..end].copy_from_slice(piece);
-            n = end;
+            store(block, n, piece);
+            n += piece.len();
             empty = emptied(piece, x, empty);
         }
         Joined::Last(n)

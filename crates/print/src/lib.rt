@@ -86,7 +86,7 @@ impl<'a> Out<'a> {
         Out { buffer, at }
     }
 
-    // How many bytes were written, with those that had no room.
+    // The place reached, with the bytes that had no room: from the front, how many were written.
     pub fn len(&self) -> usize
         ensures { result ≡ self.now.at }
     {

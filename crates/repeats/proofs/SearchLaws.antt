@@ -1,6 +1,6 @@
 -- A row or a text among others, those with another end passed over. Assumes nothing.
 use mathlib.Core.Path.{◌≡◌, refl, sym, ap, ap₂, ◌∙◌}
-use mathlib.Core.Bool.{Bool, true, false, ◌||◌}
+use mathlib.Core.Bool.{Bool, true, false, not, ◌||◌, true≢false}
 use mathlib.Core.List.{List, [], ◌∷◌}
 use Prim.Native.Nat.{ℕ, suc, ◌+◌, ◌-◌, ◌≤◌, ◌<◌}
 use native.Mathlib.Numerals.{add-one}
@@ -9,6 +9,9 @@ use native.Mathlib.Decide.{ℕ_discrete, dec_lt}
 use borrow.Author.Tests.{eq-eqb, ne_eqb}
 use lib.ListN.{length, get_or, drop, length-take, length-drop, get_or-eq_default}
 use lib.Seq.{drop-cons, get_or-drop}
+use lib.Dec.{eqb}
+use lib.Pointwise.{pointwise, bytes_decides}
+use Rattle.std.specs.Array.{IsWholeChunk}
 use Rattle.words.proofs.Stores.{part_at}
 use Rattle.sheet.specs.Bytes.{same}
 use Rattle.sheet.specs.Forms.{form_of, forms, tag, at, key_of, no_key}
@@ -118,12 +121,17 @@ not_same k l n = go (same k l) refl
     go true e = absurd (n (same_is k l e))
     go false e = refl
 
--- runs of other lengths, or with another item at one place
+-- runs of other lengths
 pub other_length : (k l : List ℕ) → (length k ≡ length l → ⊥) → false ≡ same k l
 other_length k l n = not_same k l (λ e. n (ap length e))
 
-pub other_item : (k l : List ℕ) (i : ℕ) → (get_or k i 0 ≡ get_or l i 0 → ⊥) → false ≡ same k l
-other_item k l i n = not_same k l (λ e. n (ap (λ (y : List ℕ). get_or y i 0) e))
+-- runs whose last n items differ
+pub other_end : (k l x y : List ℕ) (n : ℕ) (b : Bool) → IsWholeChunk (drop (length k - n) k) x n → IsWholeChunk (drop (length l - n) l) y n
+    → b ≡ not (pointwise eqb x y) → b ≡ true → false ≡ same k l
+other_end k l x y n b ex ey eb t = not_same k l (λ e.
+    let s : x ≡ y = ex.same ∙ ap (λ (z : List ℕ). drop (length z - n) z) e ∙ sym ey.same in
+    let f : ◌≡◌ {A = Bool} true false = sym t ∙ eb ∙ ap not ((bytes_decides x y).1 s) in
+    true≢false f)
 
 no_ends : (n p : ℕ) (l : List ℕ) → p < length (ends_of n l) → 1 ≤ n
 no_ends n p l h = go (ℕ_discrete n 0)

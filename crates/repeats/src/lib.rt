@@ -14,19 +14,18 @@ use forms::{TEXT, TEXT_LINE};
 use table::{base_of, bytes, count, item, row, tag};
 use words::{cut, read};
 
-// So many items at the end of two runs are compared before all are: runs that begin alike often end otherwise.
-const TAIL: usize = 16;
+// So many items at the end of two runs are compared at once, before all are: runs that begin alike often end otherwise.
+const TAIL: usize = 8;
 
 // Whether two rows are the same.
 fn same_words(left: &[u32], right: &[u32]) -> bool
     ensures { result ≡ same left.now right.now }
 {
-    let n = left.len();
-    if n != right.len() {
+    if left.len() != right.len() {
         return false;
     }
-    for i in 0..n.min(TAIL) {
-        if left[n - 1 - i] != right[n - 1 - i] {
+    if let (Some(end), Some(other)) = (left.last_chunk::<TAIL>(), right.last_chunk::<TAIL>()) {
+        if end != other {
             return false;
         }
     }
@@ -37,12 +36,11 @@ fn same_words(left: &[u32], right: &[u32]) -> bool
 fn same_bytes(left: &[u8], right: &[u8]) -> bool
     ensures { result ≡ same left.now right.now }
 {
-    let n = left.len();
-    if n != right.len() {
+    if left.len() != right.len() {
         return false;
     }
-    for i in 0..n.min(TAIL) {
-        if left[n - 1 - i] != right[n - 1 - i] {
+    if let (Some(end), Some(other)) = (left.last_chunk::<TAIL>(), right.last_chunk::<TAIL>()) {
+        if end != other {
             return false;
         }
     }

@@ -46,14 +46,21 @@ pub enum Joined {
     Open,
 }
 
-// The same, from its number: any but those of values and of an error is that of an open one.
+// The numbers of these.
+pub const ALL_VALUES: u32 = 0;
+
+pub const SOME_ERROR: u32 = 1;
+
+pub const SOME_OPEN: u32 = 2;
+
+// How far by its number: any but those of values and of an error is that of an open one.
 impl From<u32> for Joined {
     ghost from_gives = { λ number joined. join_in joined ≡ join_at number };
 
     fn from(number: u32) -> Joined {
         match number {
-            0 => Joined::Values,
-            1 => Joined::Error,
+            ALL_VALUES => Joined::Values,
+            SOME_ERROR => Joined::Error,
             _ => Joined::Open,
         }
     }

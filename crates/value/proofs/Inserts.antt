@@ -9,7 +9,7 @@ use native.Mathlib.Decide.{dec_lt}
 use borrow.Author.Tests.{eq-eqb, ne_eqb, lt-ltb, le-ltb}
 use lib.Dec.{eqb, ltb}
 use lib.ListN.{length, get_or, take, drop, set, length-set, length-append, length-drop}
-use lib.Seq.{drop-drop, take-nil, take-take, take_at, drop_at, take-set-lt, length-take-le, take-suc-set, drop-set-lt}
+use lib.Seq.{drop-drop, take-nil, take-take, take_at, drop_at, take-set-lt, length-take-le}
 use Rattle.std.specs.List.{copy_within}
 use Rattle.std.proofs.lemmas.List.{set-append_left}
 use Rattle.std.proofs.lemmas.List.Edits.{take-paste}
@@ -22,48 +22,19 @@ use Rattle.value.specs.Places.{lower_than}
 use Rattle.value.specs.Made.{ROW, SOURCE, Shifted, Inserted, values_in, push_all}
 use Rattle.value.proofs.Sorting.{short, uncons4}
 use Rattle.value.proofs.Fills.{drop_take, push_all_law}
-use native.Mathlib.Numerals.{add-one}
-use Rattle.value.proofs.Lists.{uncons}
 
 -- ---- one place on
 
-part_next : (b : List ℕ) (i p : ℕ) → i < p → i < length b → part b i p ≡ get_or b i 0 ∷ part b (i + 1) p
-part_next b i p h k =
-    let z : p - i ≡ suc (p - (i + 1)) = omega arith in
-    ap (take (p - i)) (uncons b 0 i k) ∙ ap (λ (n : ℕ). take n (get_or b i 0 ∷ drop (i + 1) b)) z
-
--- the words up to i are moved, and y is the next to be stored
-pub record Shifting (b₀ : List ℕ) (j p x : ℕ) (b : List ℕ) (y i : ℕ) : Type 0 where
-  pub near : i ≤ p
-  pub len : length b ≡ length b₀
-  pub left : take i b ++ (y ∷ part b i p) ≡ take j b₀ ++ (x ∷ part b₀ j p)
-
-pub shift_start : (b : List ℕ) (j p x : ℕ) → j ≤ p → Shifting b j p x b x j
-shift_start b j p x h = record { near = h; len = refl; left = refl }
-
-module _ (b₀ : List ℕ) (j p x : ℕ) (k : p < length b₀) (b : List ℕ) (y i : ℕ) (g : Shifting b₀ j p x b y i) where
-  pub shift_on : i < p → Shifting b₀ j p x (set b i y) (get_or b i 0) (i + 1)
-  shift_on h =
-      let u : i < length b = omega (arith, g.len) in
-      let d : take (i + 1) (set b i y) ≡ take i b ++ (y ∷ []) = rw (add-one i) (take-suc-set b i y u) in
-      let e : part (set b i y) (i + 1) p ≡ part b (i + 1) p = ap (take (p - (i + 1))) (drop-set-lt (i + 1) b i y (omega arith)) in
-      record {
-        near = omega arith;
-        len = length-set b i y ∙ g.len;
-        left = rw (d, e, append_assoc (take i b) (y ∷ []) (get_or b i 0 ∷ part b (i + 1) p), ← (part_next b i p h u)) g.left;
-      }
-
-  pub shift_end : p ≤ i → Shifted b₀ j p x (set b p y)
-  shift_end h =
-      let u : p < length b = omega (arith, g.len) in
-      let z : i ≡ p = omega (arith, g.near) in
-      let o : p - p ≡ 0 = omega arith in
-      let e : take p b ++ (y ∷ part b p p) ≡ take j b₀ ++ (x ∷ part b₀ j p) = rw z at g.left in
-      let n : part b p p ≡ [] = ap (λ (m : ℕ). take m (drop p b)) o in
-      record {
-        words = rw (add-one p) (take-suc-set b p y u) ∙ ap (λ (l : List ℕ). take p b ++ (y ∷ l)) (sym n) ∙ e;
-        len = length-set b p y ∙ g.len;
-      }
+pub shift_is : (b : List ℕ) (j p x : ℕ) → j ≤ p → p < length b → (q : List ℕ) → q ≡ copy_within b j p (j + 1) → length q ≡ length b → Shifted b j p x (set q j x)
+shift_is b j p x h k q e n =
+    let z : j + 1 + (p - j) ≡ p + 1 = omega arith in
+    let m : take (p + 1) q ≡ take (j + 1) b ++ part b j p = ap (take (p + 1)) e ∙ ap (λ (n : ℕ). take n (copy_within b j p (j + 1))) (sym z) ∙ take-paste b (j + 1) (drop j b) (p - j) (omega arith) (omega (arith, length-drop j b)) in
+    let s : j < length (take (j + 1) b) = omega (arith, length-take-le (j + 1) b (omega arith)) in
+    let f : set (take (j + 1) b) j x ≡ take j b ++ (x ∷ []) = sym (take-set-lt (j + 1) b j x (omega arith)) ∙ take-set_at b j (j + 1) x refl (omega arith) in
+    record {
+      words = take-set-lt (p + 1) q j x (omega arith) ∙ rw (m, set-append_left (take (j + 1) b) (part b j p) j x s, f, append_assoc (take j b) (x ∷ []) (part b j p));
+      len = length-set q j x ∙ n;
+    }
 
 -- ---- a place among others
 

@@ -518,16 +518,8 @@ fn shift(log: &mut [u32], start: usize, end: usize, value: u32)
     requires { (start ≤ end) × (end < length log.old) }
     ensures { Shifted log.old start end value log.new }
 {
-    // kept: a range, as `copy_within`, becomes a call of memmove, which nothing else in the archive for C needs.
-    let mut moved = value;
-    let mut i = start;
-    while i < end {
-        let next = log[i];
-        log[i] = moved;
-        moved = next;
-        i += 1;
-    }
-    log[end] = moved;
+    log.copy_within(start..end, start + 1);
+    log[start] = value;
 }
 
 // The number `value` in its place among the words from `at` to `end`, unless it is there; the end after them.

@@ -3,13 +3,11 @@ use mathlib.Core.Path.{◌≡◌, refl, sym, ap, ◌∙◌}
 use mathlib.Core.List.{List, [], ◌∷◌, ◌++◌, append_assoc}
 use Prim.Native.Nat.{ℕ, zero, suc, ◌+◌, ◌-◌, ◌≤◌, ◌<◌}
 use native.Mathlib.Nat.{add-zero, add-suc, suc-add}
+use native.Mathlib.Numerals.{add-one}
 use native.Mathlib.Omega.{arith}
 use borrow.Author.Tests.{lt-ltb, le-ltb}
-use lib.ListN.{length, get_or, take, drop, set, replicate, take-append-drop, length-drop, length-append, length-replicate, get_or-replicate, get_or-append}
-use lib.Seq.{take-take, take_all, take-set-le, drop-set-lt, drop-drop, get_or-take, get_or-drop, sets, sets-eq, length-sets, set_out, drop_at, take_at, length-take-le}
-use Rattle.std.proofs.Common.{min}
-use native.Mathlib.Decide.{dec_le}
-use borrow.Rule.Slice.PartMut.{put_mid}
+use lib.ListN.{length, get_or, take, drop, set, replicate, length-set, length-drop, length-append, length-replicate, drop_of_length-le, get_or-replicate, get_or-append}
+use lib.Seq.{take-take, take-set-le, drop-set-lt, get_or-take, get_or-drop, drop-cons, sets, sets-eq, set_out, drop_at, take_at, length-take-le}
 use Rattle.words.specs.Log.{part, zeros, cleared}
 
 -- ---- one word
@@ -70,31 +68,32 @@ sets_append [] ys w i = rw add-zero
 sets_append (x ∷ xs) ys w i = sets_append xs ys _ (suc i) ∙ rw (add-suc, suc-add)
 
 -- stores past the end do nothing
-pub sets_out : (vs w : List ℕ) (i : ℕ) → length w ≤ i → sets w i vs ≡ w
+pub sets_out : {T : Type 0} (vs w : List T) (i : ℕ) → length w ≤ i → sets w i vs ≡ w
 sets_out [] w i h = refl
 sets_out (a ∷ vs) w i h =
-    ap (λ (l : List ℕ). sets l (suc i) vs) (set_out w i a h) ∙ sets_out vs w (suc i) (omega arith)
+    ap (λ (l : List _). sets l (suc i) vs) (set_out w i a h) ∙ sets_out vs w (suc i) (omega arith)
 
--- of a run that goes past the end only what has a place is stored
-sets_cut : (vs w : List ℕ) (i n : ℕ) → n ≤ length vs → length w ≤ i + n → sets w i (take n vs) ≡ sets w i vs
-sets_cut vs w i n h l =
-    let e : length (take n vs) ≡ n = length-take-le n vs h in
-    let f : length (sets w i (take n vs)) ≤ i + length (take n vs) = omega (arith, length-sets w i (take n vs)) in
-    sym (ap (sets w i) (sym (take-append-drop n vs)) ∙ sets_append (take n vs) (drop n vs) w i ∙ sets_out (drop n vs) (sets w i (take n vs)) (i + length (take n vs)) f)
+-- where a run of stores stands: from w₀ at place `at` all of row is left to store, now at place k of w the rest from i on
+pub record Storing {T : Type 0} (row w₀ : List T) (at : ℕ) (w : List T) (k i : ℕ) : Type 0 where
+  pub long : length w ≡ length w₀
+  pub left : sets w₀ at row ≡ sets w k (drop i row)
 
-pub stored_part : (w vs : List ℕ) (i a n k : ℕ) → a ≡ min i (length w) → n ≡ min (length vs) (length w - a) → k ≡ n → put_mid a k w (take n vs) ≡ sets w i vs
-stored_part w vs i a n k ea en ek = go (dec_le (length w) i) (dec_le (length vs) n)
-  where
-    part_in : i ≡ a → put_mid a k w (take n vs) ≡ sets w i (take n vs)
-    part_in e =
-        let l : length (take n vs) ≡ n = length-take-le n vs (omega arith) in
-        let m : i + length (take n vs) ≤ length w = omega arith in
-        rw (sets-eq (take n vs) w i m, l, ek, e, drop-drop n a w) (sym (append_assoc (take a w) (take n vs) (drop (a + n) w)))
+pub storing_start : {T : Type 0} (row w : List T) (at : ℕ) → Storing row w at w at 0
+storing_start row w at = record { long = refl; left = refl }
 
-    go : Dec (length w ≤ i) → Dec (length vs ≤ n) → put_mid a k w (take n vs) ≡ sets w i vs
-    go (yes h) d = let z : n ≡ 0 = omega arith in rw (ek, z) (take-append-drop a w) ∙ sym (sets_out vs w i h)
-    go (no h) (yes d) = part_in (omega arith) ∙ ap (sets w i) (take_all n vs d)
-    go (no h) (no d) = part_in (omega arith) ∙ sets_cut vs w i n (omega arith) (omega arith)
+module _ {T : Type 0} (row w₀ : List T) (at : ℕ) (w : List T) (k i : ℕ) (s : Storing row w₀ at w k i) where
+  pub storing_on : (d : T) → i < length row → Storing row w₀ at (set w k (get_or row i d)) (k + 1) (i + 1)
+  storing_on d h =
+      record {
+        long = length-set w k (get_or row i d) ∙ s.long;
+        left = s.left ∙ rw (drop-cons row i d h, add-one k, add-one i);
+      }
+
+  pub storing_full : length w ≤ k → w ≡ sets w₀ at row
+  storing_full h = sym (s.left ∙ sets_out (drop i row) w k h)
+
+  pub storing_end : length row ≤ i → w ≡ sets w₀ at row
+  storing_end h = sym (s.left ∙ ap (sets w k) (drop_of_length-le row h))
 
 -- ---- words that agree below a place
 

@@ -54,12 +54,18 @@ pub fn put<T: Copy>(items: &mut [T], i: usize, item: T)
 }
 
 // A run of stores from `at` on.
-pub fn store(words: &mut [u32], at: usize, row: &[u32])
-    ensures { words.new ≡ sets words.old at row.now }
+pub fn store<T: Copy>(items: &mut [T], at: usize, row: &[T])
+    ensures { items.new ≡ sets items.old at row.now }
 {
-    let at = at.min(words.len());
-    let n = row.len().min(words.len() - at);
-    words[at..at + n].copy_from_slice(&row[..n]);
+    // kept: one item after the other: as a run, by `copy_from_slice`, this calls memmove, and the archive for C would need it from outside.
+    let mut k = at;
+    for &item in row {
+        if k >= items.len() {
+            return;
+        }
+        items[k] = item;
+        k += 1;
+    }
 }
 
 // Whether a slice of `len` words has room for `n` more after the log's end.

@@ -10,4 +10,4 @@ pub returns-then-read-text : goal.returns-then-read-text
 returns-then-read-text c = (search settle_same, search rules)
 
 pub returns : goal.returns
-returns c = let z = c in let s = c.slot_of-slot in (settle_new z.args.texts.now z.args.seen.now z.args.text _ (replicate TYPE_WORDS 0) c.store.new.words c.put.new.items refl refl z.requires.0 z.requires.1 s.ensures c.store.ensures c.put.ensures, s.ensures)
+returns c = let z = c in let s = c.slot_of-slot in (settle_new z.args.texts.now z.args.seen.now z.args.text _ (replicate TYPE_WORDS 0) c.store.new.items c.put.new.items refl refl z.requires.0 z.requires.1 s.ensures c.store.ensures c.put.ensures, s.ensures)

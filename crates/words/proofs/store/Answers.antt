@@ -1,9 +1,16 @@
 -- `words::store` meets its contract. Assumes nothing.
-use Rattle.words.proofs.Stores.{stored_part}
-use Rattle.std.proofs.Common.{◌+◌, ◌-◌, arith}
+use Rattle.words.proofs.Stores.{storing_start, storing_on, storing_full, storing_end}
+use borrow.Author.Rules.{rules}
 use Rattle.words.proofs.store.Goals as goal
 
+pub loop-item-init : goal.loop-item-init
+loop-item-init t c = search (storing_start, rules)
+
+pub returns-then-k-items : goal.returns-then-k-items
+returns-then-k-items t c = search (storing_full, rules)
+
+pub loop-item-preserved : goal.loop-item-preserved
+loop-item-preserved t c = search (storing_on, rules)
+
 pub returns : goal.returns
-returns c = let x = c.args in
-    rw c.copy_from_slice.ensures.after
-    (stored_part x.words.now x.row.now x.at c.min-at.result c.min-n.result (c.min-at.result + c.min-n.result - c.min-at.result) c.min-at.ensures c.min-n.ensures (omega arith))
+returns t c = search (storing_end, rules)
