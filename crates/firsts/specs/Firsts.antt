@@ -28,9 +28,8 @@ pub record Noted (cells : List Cell) (v t : ℕ) (r : Maybe ℕ) : Type 0 where
   pub text : (x : ℕ) → r ≡ Some x → (get_or cells (cell_of v t) BLANK).text ≡ suc t
   pub next : (x : ℕ) → r ≡ Some x → (get_or cells (cell_of v t) BLANK).next ≡ x
 
--- it does, and it holds where the cells do
+-- and it holds where the cells do
 pub record Leads (cells : List Cell) (v t : ℕ) (r : Maybe ℕ) : Type 0 where
-  pub noted : Noted cells v t r
   pub is : (a : List ℕ) → Firsts a cells → (x : ℕ) → r ≡ Some x → (c : Bool) → Atˡ x ≡ look_attr c a v t
 
 -- what is noted holds as before, if text t leads from value v to x

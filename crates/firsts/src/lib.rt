@@ -5,7 +5,7 @@
 ghost use Rattle.std.specs.Prelude.{◌≡◌, [], ◌+◌, ◌≤◌, ◌<◌, length, get_or};
 ghost use Rattle.sheet.specs.Forms.{ENTITY};
 ghost use Rattle.table.specs.Layout.{rows_of};
-ghost use Rattle.firsts.specs.Firsts.{Kept, KeptAll, Sourced, Entered, Firsts, Leads, cell_of};
+ghost use Rattle.firsts.specs.Firsts.{Kept, KeptAll, Sourced, Entered, Firsts, Leads, Noted, cell_of};
 
 use forms::{ENTITY, MARK, VALUE};
 use lookup::TEXTS;
@@ -64,7 +64,8 @@ pub fn keep(cells: &mut [Cell], value: u32, text: u32, next: u32)
 
 // Where `text` leads from `value`, if it is noted.
 pub fn next(cells: &[Cell], value: u32, text: u32) -> Option<u32>
-    ensures { Leads cells.now value text result }
+    ensures leads { Leads cells.now value text result }
+    ensures noted { Noted cells.now value text result }
 {
     let cell = item_or(cells, cell_of(value, text), BLANK);
     if cell.text as usize != text as usize + 1 {

@@ -36,6 +36,12 @@ prints_next text i p h q = record { same = q.same ∙ p.same; written = written_
 
 -- ---- numbers
 
+pub number_one : {a b : Out} (n : ℕ) → n < 10 → Prints a ((48 + n) ∷ []) b → Prints a (digits n) b
+number_one n h p = prints_as p (digits_one n h)
+
+pub number_more : {a b c : Out} (n : ℕ) → n < 18446744073709551616 → 10 ≤ n → Prints a (digits (n / 10)) b → Prints b ((48 + n % 10) ∷ []) c → Prints a (digits n) c
+number_more n l h p q = prints_as (prints_two p q) (digits_more n h l)
+
 pub long_less : {a b c : Out} (w : ℕ) → w < 9223372036854775808 → Prints a (45 ∷ []) b → Prints b (digits (9223372036854775808 - w)) c → Prints a (signed (long_at w)) c
 long_less w h p q = prints_as (prints_two p q) (signed_negative w h)
 
